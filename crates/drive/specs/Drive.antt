@@ -1,0 +1,110 @@
+-- A whole drive, map image, cells and marks: document 01, "Refusal numbers" 1, 2 and 7, and "Active slot and key cache". Assumes nothing.
+use Prim.Native.Nat.{ℕ, _+_, _-_}
+use mathlib.Core.Path.{_≡_}
+use mathlib.Core.Bool.{Bool, true, false, cond, _&&_, not}
+use mathlib.Core.List.{List}
+use lib.ListN.{length, take, drop}
+use lib.Dec.{eqb, ltb}
+use Rattle.laws.specs.Below.{firstBelow}
+use Rattle.map.specs.declared.Header.{Header}
+use Rattle.map.specs.Map.{headerOf, entryOf, endOf, zeroizable, slot, mapGood}
+use Rattle.partition.specs.declared.State.{State}
+use Rattle.partition.specs.declared.State.the-variants.{Erased, Torn, Blank, Programmed}
+use Rattle.partition.specs.declared.Survey.{Survey}
+use Rattle.partition.specs.Partition.{surveyOf}
+use Rattle.drive.specs.declared.Check.{Check}
+use Rattle.drive.specs.declared.Check.the-variants.{Ready, Refused}
+use Rattle.drive.specs.declared.Surveyed.{Surveyed}
+use Rattle.drive.specs.declared.Surveyed.the-variants.{Found, Refused as NotSurveyed}
+use Rattle.drive.specs.declared.ActiveSlot.{ActiveSlot}
+use Rattle.drive.specs.declared.ActiveSlot.the-variants.{Programmed as ProgrammedSlot, Blank as BlankSlot, Torn as TornSlot, Absent}
+use Rattle.drive.specs.declared.SlotAnswer.{SlotAnswer}
+use Rattle.drive.specs.declared.SlotAnswer.the-variants.{Slot, Refused as NoAnswer}
+
+-- ---- refusals 1 and 2, which every call on a drive shares
+
+-- 2: "cells or marks not C long"
+unfoldable pub wholeArrays : (image cells marks : List ℕ) → Bool
+wholeArrays image cells marks = eqb (length cells) (headerOf image .cells) && eqb (length marks) (headerOf image .cells)
+
+-- 1: "map breaks a rule above"; then 2
+unfoldable pub checkOf : (image cells marks : List ℕ) → Check
+checkOf image cells marks =
+    cond (not (mapGood image)) (Refused 1)
+    (cond (not (wholeArrays image cells marks)) (Refused 2)
+    (Ready (headerOf image)))
+
+-- a drive that neither refuses: what the functions below the entry points ask for
+pub record Whole (image cells : List ℕ) : Type 0 where
+  pub good : mapGood image ≡ true
+  pub long : length cells ≡ headerOf image .cells
+
+-- ---- partitions
+
+-- "A partition's cells are handed on as a part of the array that starts where the partition starts"
+abbrev pub cellsOf : (image cells : List ℕ) (i : ℕ) → List ℕ
+cellsOf image cells i = take (endOf (entryOf image i) - entryOf image i .first) (drop (entryOf image i .first) cells)
+
+-- the state and the short pairs of partition i
+unfoldable pub surveyAt : (image cells : List ℕ) (i : ℕ) → Survey
+surveyAt image cells i = surveyOf (zeroizable (entryOf image i)) (headerOf image .bound) (cellsOf image cells i)
+
+-- the same, or the lowest refusal that applies: 1, 2, or 7, "no such partition"
+abbrev pub surveyedBy : Check → (image cells : List ℕ) (i : ℕ) → Surveyed
+surveyedBy (Refused number) image cells i = NotSurveyed number
+surveyedBy (Ready header) image cells i = cond (ltb i (header .partitions)) (Found (surveyAt image cells i)) (NotSurveyed 7)
+
+abbrev pub surveyedOf : (image cells marks : List ℕ) (i : ℕ) → Surveyed
+surveyedOf image cells marks i = surveyedBy (checkOf image cells marks) image cells i
+
+-- ---- the active slot
+
+-- the answer for a slot in partition i, by its state: an erased slot is passed over
+abbrev pub slotIn : State → (i : ℕ) → ActiveSlot
+slotIn Erased i = Absent
+slotIn Torn i = TornSlot i
+slotIn Blank i = BlankSlot i
+slotIn Programmed i = ProgrammedSlot i
+
+-- partition i as the active slot: absent where it is no slot or is erased
+unfoldable pub slotAt : (image cells : List ℕ) (i : ℕ) → ActiveSlot
+slotAt image cells i = cond (slot (entryOf image i)) (slotIn (surveyAt image cells i .state) i) Absent
+
+abbrev pub present : ActiveSlot → Bool
+present Absent = false
+present (TornSlot i) = true
+present (BlankSlot i) = true
+present (ProgrammedSlot i) = true
+
+-- partition i is a slot that is not erased
+unfoldable pub openSlot : (image cells : List ℕ) (i : ℕ) → Bool
+openSlot image cells i = present (slotAt image cells i)
+
+-- "Active slot: the first slot in map order that is not erased"
+unfoldable pub activeSlot : (image cells : List ℕ) → ActiveSlot
+activeSlot image cells =
+    cond (ltb (firstBelow (openSlot image cells) (headerOf image .partitions)) (headerOf image .partitions))
+    (slotAt image cells (firstBelow (openSlot image cells) (headerOf image .partitions)))
+    Absent
+
+-- the document's number for each case: "active slot's partition or 0xFFFFFFFF"
+abbrev pub slotNumber : ActiveSlot → ℕ
+slotNumber (ProgrammedSlot i) = i
+slotNumber (BlankSlot i) = i
+slotNumber (TornSlot i) = i
+slotNumber Absent = 0xFFFF_FFFF
+
+-- "The HEK is available when there is one and it is programmed. A torn slot is active and gives no HEK"
+abbrev pub available : ActiveSlot → Bool
+available (ProgrammedSlot i) = true
+available (BlankSlot i) = false
+available (TornSlot i) = false
+available Absent = false
+
+-- the active slot, or the lowest refusal that applies: 1 or 2
+abbrev pub slotAnswerBy : Check → (image cells : List ℕ) → SlotAnswer
+slotAnswerBy (Refused number) image cells = NoAnswer number
+slotAnswerBy (Ready header) image cells = Slot (activeSlot image cells)
+
+abbrev pub slotAnswerOf : (image cells marks : List ℕ) → SlotAnswer
+slotAnswerOf image cells marks = slotAnswerBy (checkOf image cells marks) image cells

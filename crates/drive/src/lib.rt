@@ -1,0 +1,172 @@
+// A whole drive: map image, fuse cells and stuck marks together. The refusals that every call
+// shares, a partition's state, and the active slot with its HEK. The public functions with three
+// slices are entry points: they answer for any bytes and any lengths. The definitions are in
+// `specs/Drive`, the laws for callers in `specs/Laws`. It rests on `map` and `partition`.
+use map::Header;
+use partition::State;
+use partition::Survey;
+ghost use mathlib.Core.Path.{_≡_};
+ghost use Prim.Native.Nat.{_<_};
+ghost use lib.ListN.{length};
+ghost use Rattle.map.specs.Map.{headerOf};
+ghost use Rattle.drive.specs.Drive.{Whole, checkOf, surveyAt, surveyedOf, slotAt, present, slotNumber, available, activeSlot, slotAnswerOf};
+
+// Refusal 1 or 2, or the header of a good map whose arrays have its length.
+pub enum Check {
+    Ready(Header),
+    Refused(u32),
+}
+
+// A partition's state and short pairs, or the refusal's number.
+pub enum Surveyed {
+    Found(Survey),
+    Refused(u32),
+}
+
+// The active slot's partition by the slot's state, or that there is none. The HEK is available from
+// a programmed slot alone.
+pub enum ActiveSlot {
+    Programmed(u32),
+    Blank(u32),
+    Torn(u32),
+    Absent,
+}
+
+// The active slot, or the refusal's number.
+pub enum SlotAnswer {
+    Slot(ActiveSlot),
+    Refused(u32),
+}
+
+// Judges map, cells and marks: refusals 1 and 2 in this order.
+pub fn check_drive(image: &[u8], cells: &[u32], marks: &[u32]) -> Check
+    ensures { λ r. ⌜ r ≡ checkOf (now (image .entry)) (now (cells .entry)) (now (marks .entry)) ⌝ }
+{
+    if !map::is_good(image) {
+        return Check::Refused(1);
+    }
+    let header = map::read_header(image);
+    let c = header.cells as usize;
+    if (cells.len() == c) & (marks.len() == c) {
+        return Check::Ready(header);
+    }
+    Check::Refused(2)
+}
+
+// The state and short pairs of partition `i` of a drive that was judged.
+pub fn survey_at(image: &[u8], cells: &[u32], i: u32) -> Survey
+    requires { ⌜ Whole (now image) (now cells) × (i < headerOf (now image) .partitions) ⌝ }
+    ensures { λ r. ⌜ r ≡ surveyAt (now (image .entry)) (now (cells .entry)) i ⌝ }
+{
+    let header = map::read_header(image);
+    let x = map::read_entry(image, i);
+    let first = x.first as usize;
+    let end = map::end_of(x);
+    partition::survey_cells(
+        &cells[first..end],
+        header.bound as u64,
+        map::is_zeroizable(x),
+    )
+}
+
+// The state and short pairs of a partition: refusals 1, 2 and 7.
+pub fn survey_partition(image: &[u8], cells: &[u32], marks: &[u32], i: u32) -> Surveyed
+    ensures { λ r. ⌜ r ≡ surveyedOf (now (image .entry)) (now (cells .entry)) (now (marks .entry)) i ⌝ }
+{
+    match check_drive(image, cells, marks) {
+        Check::Refused(number) => Surveyed::Refused(number),
+        Check::Ready(header) => {
+            if i < (header.partitions as u32) {
+                Surveyed::Found(survey_at(image, cells, i))
+            } else {
+                Surveyed::Refused(7)
+            }
+        }
+    }
+}
+
+// Partition `i` as the active slot: absent where it is no slot or is erased.
+fn slot_at(image: &[u8], cells: &[u32], i: u32) -> ActiveSlot
+    requires { ⌜ Whole (now image) (now cells) × (i < headerOf (now image) .partitions) ⌝ }
+    ensures { λ r. ⌜ r ≡ slotAt (now (image .entry)) (now (cells .entry)) i ⌝ }
+{
+    if !map::is_slot(map::read_entry(image, i)) {
+        return ActiveSlot::Absent;
+    }
+    let survey = survey_at(image, cells, i);
+    let state = survey.state;
+    match state {
+        State::Erased => ActiveSlot::Absent,
+        State::Torn => ActiveSlot::Torn(i),
+        State::Blank => ActiveSlot::Blank(i),
+        State::Programmed => ActiveSlot::Programmed(i),
+    }
+}
+
+// Whether there is an active slot.
+pub fn is_present(slot: ActiveSlot) -> bool
+    ensures { λ r. ⌜ r ≡ present slot ⌝ }
+{
+    match slot {
+        ActiveSlot::Programmed(_) => true,
+        ActiveSlot::Blank(_) => true,
+        ActiveSlot::Torn(_) => true,
+        ActiveSlot::Absent => false,
+    }
+}
+
+// The active slot's partition, 0xFFFFFFFF where there is none.
+pub fn slot_number(slot: ActiveSlot) -> u32
+    ensures { λ r. ⌜ r ≡ slotNumber slot ⌝ }
+{
+    match slot {
+        ActiveSlot::Programmed(i) => i,
+        ActiveSlot::Blank(i) => i,
+        ActiveSlot::Torn(i) => i,
+        ActiveSlot::Absent => 0xFFFF_FFFF,
+    }
+}
+
+// Whether the HEK is available.
+pub fn is_available(slot: ActiveSlot) -> bool
+    ensures { λ r. ⌜ r ≡ available slot ⌝ }
+{
+    match slot {
+        ActiveSlot::Programmed(_) => true,
+        ActiveSlot::Blank(_) => false,
+        ActiveSlot::Torn(_) => false,
+        ActiveSlot::Absent => false,
+    }
+}
+
+// The active slot of a drive that was judged: walks the partitions until the first slot that is not
+// erased.
+pub fn active_in(image: &[u8], cells: &[u32]) -> ActiveSlot
+    requires { ⌜ Whole (now image) (now cells) ⌝ }
+    ensures { λ r. ⌜ r ≡ activeSlot (now (image .entry)) (now (cells .entry)) ⌝ }
+{
+    let header = map::read_header(image);
+    let partitions = header.partitions as u32;
+    let mut i: u32 = 0;
+    let active = loop {
+        if partitions <= i {
+            break ActiveSlot::Absent;
+        }
+        let slot = slot_at(image, cells, i);
+        if is_present(slot) {
+            break slot;
+        }
+        i += 1;
+    };
+    active
+}
+
+// The active slot: refusals 1 and 2.
+pub fn active_slot(image: &[u8], cells: &[u32], marks: &[u32]) -> SlotAnswer
+    ensures { λ r. ⌜ r ≡ slotAnswerOf (now (image .entry)) (now (cells .entry)) (now (marks .entry)) ⌝ }
+{
+    match check_drive(image, cells, marks) {
+        Check::Refused(number) => SlotAnswer::Refused(number),
+        Check::Ready(_) => SlotAnswer::Slot(active_in(image, cells)),
+    }
+}

@@ -1,0 +1,73 @@
+-- The laws of burning and counting, for callers. Assumes nothing.
+--     keeps       a burn clears nothing
+--     only-of-v, only-free, stuck-stays   it adds only fuses of v, and only unstuck ones
+--     mono        it is monotone in the cell and in v
+--     absorbs     all ones burned into any c with s ⊆ c ⊆ s ∪ ¬stuck leave what all ones burned into s leave
+--     fits        a cell stays a cell of 32 fuses
+--     ones-*      how many are set: the language's count, at most 64, monotone; so a pair only ever stops being short
+use mathlib.Core.Path.{_≡_, sym, ap, _∙_}
+use mathlib.Core.Bool.{Bool, true, false}
+use mathlib.Core.List.{List}
+use Prim.Native.Nat.{ℕ, _+_, _-_, _*_, _/_, _%_, _^_, _≤_, _<_}
+use native.Mathlib.Nat.{lt-of-le-of-lt}
+use native.Mathlib.Omega.{arith}
+use lib.Bits.{bitAnd, bitOr, or-lt, and-le-r}
+use lib.Count.{ones}
+use lib.Pow.{ones-sub-lt}
+use borrow.Author.Tests.{lt-ltb, ltb-true}
+use Rattle.laws.specs.Bits.{_⊆_, ext, bit-or, bit-and, bit-not, sub-refl, sub-antisym, sub-or-l, sub-or-r, sub-and-l, sub-and-r, or-lub, or-mono, and-mono, full-and}
+use Rattle.laws.specs.Ones.{counted, count-le, count-mono, cat-sub}
+use Rattle.fuse.specs.Fuse.{allSet, free, burn, pairOf, onesOf, short, cellsIn, burnCell, burnWord}
+
+module _ (stuck : ℕ) where
+  pub keeps : (x v : ℕ) → x ⊆ burn x v stuck
+  keeps x v = sub-or-l x (bitAnd v (free stuck))
+
+  pub only-of-v : (x v : ℕ) → burn x v stuck ⊆ bitOr x v
+  only-of-v x v = or-mono (sub-refl x) (sub-and-l v (free stuck))
+
+  pub only-free : (x v : ℕ) → burn x v stuck ⊆ bitOr x (free stuck)
+  only-free x v = or-mono (sub-refl x) (sub-and-r v (free stuck))
+
+  pub stuck-stays : stuck < 2 ^ 32 → (x v : ℕ) → bitAnd (burn x v stuck) stuck ≡ bitAnd x stuck
+  stuck-stays h x v = ext _ _ (λ i. simp (bit-and, bit-or, bit-not 32 h) (omega arith))
+
+  pub mono : {x x′ v v′ : ℕ} → x ⊆ x′ → v ⊆ v′ → burn x v stuck ⊆ burn x′ v′ stuck
+  mono p q = or-mono p (and-mono q (sub-refl (free stuck)))
+
+  pub fits : {x : ℕ} (v : ℕ) → x < 2 ^ 32 → burn x v stuck < 2 ^ 32
+  fits {x} v h = or-lt 32 x (bitAnd v (free stuck)) h (lt-of-le-of-lt (and-le-r v (free stuck)) (ones-sub-lt 32 stuck))
+
+  -- a burn of all ones sets every fuse that is not stuck
+  pub all : (x : ℕ) → burn x allSet stuck ≡ bitOr x (free stuck)
+  all x = ap (bitOr x) (full-and 32 (ones-sub-lt 32 stuck))
+
+  pub absorbs : {s c : ℕ} → s ⊆ c → c ⊆ bitOr s (free stuck) → burn c allSet stuck ≡ burn s allSet stuck
+  absorbs {s} {c} p q =
+      all c ∙ sub-antisym (or-lub q (sub-or-r s (free stuck))) (or-mono p (sub-refl (free stuck))) ∙ sym (all s)
+
+-- a burn of a pair is the burn of its low cell and then of its high cell
+pub burn-pair : (marks : List ℕ) (k v : ℕ) (cells : List ℕ) {mid after : List ℕ} → mid ≡ burnCell marks k (v % 2 ^ 32) cells → after ≡ burnCell marks (k + 1) (v / 2 ^ 32) mid → after ≡ burnWord marks k true v cells
+unfolding burnWord
+burn-pair marks k v cells p q = q ∙ ap (burnCell marks (k + 1) (v / 2 ^ 32)) p
+
+-- a word has at least one cell
+pub cells-least : (wide : Bool) → 1 ≤ cellsIn wide
+cells-least true = omega arith
+cells-least false = omega arith
+
+pub ones-counted : {n : ℕ} → n < 2 ^ 64 → onesOf n ≡ ones n
+ones-counted {n} h = counted 64 n h
+
+pub ones-most : (n : ℕ) → onesOf n ≤ 64
+ones-most n = count-le 64 n
+
+pub ones-mono : {x y : ℕ} → x ⊆ y → onesOf x ≤ onesOf y
+ones-mono p = count-mono 64 p
+
+module _ {low high low′ high′ : ℕ} (l : low < 2 ^ 32) (l′ : low′ < 2 ^ 32) (p : low ⊆ low′) (q : high ⊆ high′) where
+  pub pair-mono : pairOf low high ⊆ pairOf low′ high′
+  pair-mono = cat-sub 32 l l′ p q
+
+  pub short-anti : (bound : ℕ) → short bound (pairOf low′ high′) ≡ true → short bound (pairOf low high) ≡ true
+  short-anti bound e = lt-ltb _ _ (lt-of-le-of-lt (ones-mono pair-mono) (ltb-true _ _ e))

@@ -1,0 +1,35 @@
+-- The number of ones among the k low digits, `onesIn k` of the language's library: it computes at 64-bit numerals, and `counted`
+-- says that it is the language's own count. Assumes nothing.
+use mathlib.Core.Path.{_≡_, sym, ap, ap₂, _∙_}
+use Prim.Native.Nat.{ℕ, zero, suc, _+_, _*_, _/_, _%_, _^_, _≤_, _<_}
+use native.Mathlib.Omega.{arith}
+use native.Mathlib.Nat.{pow-suc}
+use lib.Arith.{lt-one}
+use lib.Bits.{bitOr, or-shr, or-block}
+use lib.Count.{ones, onesIn, ones-step}
+use Rattle.laws.specs.Bits.{_⊆_, or-odd}
+
+-- the language counts the same
+pub counted : (k n : ℕ) → n < 2 ^ k → onesIn k n ≡ ones n
+unfolding onesIn ones
+counted zero n h = sym (ap ones (lt-one h))
+counted (suc k) n h = ap (λ (x : ℕ). n % 2 + x) (counted k (n / 2) (omega (arith, pow-suc 2 k))) ∙ sym (ones-step n)
+
+pub count-le : (k n : ℕ) → onesIn k n ≤ k
+unfolding onesIn
+count-le zero n = omega arith
+count-le (suc k) n = omega (arith, count-le k (n / 2))
+
+-- more ones never count less
+count-or : (k x y : ℕ) → onesIn k x ≤ onesIn k (bitOr x y)
+unfolding onesIn
+count-or zero x y = omega arith
+count-or (suc k) x y = simp (or-odd, or-shr x y 1) (omega (arith, count-or k (x / 2) (y / 2)))
+
+pub count-mono : (k : ℕ) {x y : ℕ} → x ⊆ y → onesIn k x ≤ onesIn k y
+count-mono k {x} {y} p = rw (p .within) at (count-or k x y)
+
+-- two numbers of k digits as one number: the order of the halves is the order of the whole
+pub cat-sub : (k : ℕ) {lo hi lo′ hi′ : ℕ} → lo < 2 ^ k → lo′ < 2 ^ k → lo ⊆ lo′ → hi ⊆ hi′ → hi * 2 ^ k + lo ⊆ hi′ * 2 ^ k + lo′
+cat-sub k {lo} {hi} {lo′} {hi′} hl hl′ p q =
+    record { within = or-block k hi hi′ lo lo′ hl hl′ ∙ ap₂ (λ (x y : ℕ). x * 2 ^ k + y) (q .within) (p .within) }

@@ -1,0 +1,170 @@
+-- The map's laws: first what the proofs of the check cite, then what a good map gives its callers, as records of facts on numbers.
+-- Assumes nothing.
+use Prim.Native.Nat.{ℕ, zero, suc, _+_, _-_, _*_, _%_, _≤_, _<_}
+use mathlib.Core.Path.{_≡_, sym, ap, _∙_}
+use mathlib.Core.Logic.{⊎-elim}
+use mathlib.Core.Bool.{Bool, true, false, cond, _&&_, _||_, or-true, and-false}
+use mathlib.Core.List.{List}
+use native.Mathlib.Omega.{arith}
+use native.Mathlib.Nat.{not-suc-le-zero, eq-or-lt-of-le, le-of-suc-le-suc}
+use borrow.Author.Tests.{leb-true, eqb-true, eqb-false, le-ltb, ne-eqb}
+use lib.ListN.{length}
+use lib.Dec.{eqb, leb, ltb}
+use Rattle.laws.specs.Tests.{decided, and, implies, not-both}
+use Rattle.laws.specs.Below.{allBelow, all-at}
+use Rattle.endian.specs.Endian.{byteAt, u16At}
+use Rattle.map.specs.declared.Header.{Header}
+use Rattle.map.specs.declared.Entry.{Entry}
+use Rattle.map.specs.Map.{headerOf, entryPlace, entryOf, endOf, hardware, lifeCycle, zeroizable, secret, slot, headerGood, fillerGood, entryGood, endBefore, placeGood, mapGood}
+use Rattle.map.specs.Word.{tailOf}
+
+-- a byte of the filler is good where it is zero, and only there
+pub filler-zero : (s : List ℕ) (k : ℕ) → byteAt s k ≡ 0 → fillerGood s k ≡ true
+unfolding fillerGood
+filler-zero s k z = rw z (or-true (ltb k 8))
+
+pub filler-not : (s : List ℕ) (k : ℕ) → 8 ≤ k → (byteAt s k ≡ 0 → ⊥) → fillerGood s k ≡ false
+unfolding fillerGood
+filler-not s k l n = simp (le-ltb _ _ l, ne-eqb _ _ n)
+
+-- what the code tests of entry i is its rule
+pub place-is : (s : List ℕ) (i before at spare : ℕ) (h : Header) (x : Entry) (b : Bool) → before ≡ endBefore s i → h ≡ headerOf s → x ≡ entryOf s i → at ≡ entryPlace s i → spare ≡ u16At s (at + 6)
+    → b ≡ entryGood before (h .cells) x spare
+    → b ≡ placeGood s i
+unfolding placeGood
+place-is s i before at spare h x b p q r t u v = cc
+
+-- the whole check, at the header h that was read
+module _ (s : List ℕ) (h : Header) (e : h ≡ headerOf s) where
+  pub bad-header : headerGood h (length s) ≡ false → mapGood s ≡ false
+  unfolding mapGood
+  bad-header g = simp (rw e at g)
+
+  pub bad-filler : allBelow (fillerGood s) (h .entries) ≡ false → mapGood s ≡ false
+  unfolding mapGood
+  bad-filler g = simp (rw e at g, and-false)
+
+  pub good-so-far : headerGood h (length s) ≡ true → allBelow (fillerGood s) (h .entries) ≡ true → mapGood s ≡ allBelow (placeGood s) (h .partitions)
+  unfolding mapGood
+  good-so-far g f = simp (rw e at g, rw e at f, e)
+
+-- ---- what a good map gives its callers
+
+pub record HeaderRules (h : Header) (len : ℕ) : Type 0 where
+  pub partitions-least : 1 ≤ h .partitions
+  pub partitions-most : h .partitions ≤ 16
+  pub cells-least : 4 ≤ h .cells
+  pub cells-most : h .cells ≤ 2048
+  pub bound-least : 33 ≤ h .bound
+  pub bound-most : h .bound ≤ 64
+  pub entries-least : 8 ≤ h .entries
+  pub entries-most : h .entries ≤ 128
+  pub long : len ≡ h .entries + 8 * h .partitions
+
+pub header-rules : (h : Header) (len : ℕ) → headerGood h len ≡ true → HeaderRules h len
+unfolding headerGood
+header-rules h len g =
+    let r8 = and _ _ g in
+    let r7 = and _ _ (r8 .0) in
+    let r6 = and _ _ (r7 .0) in
+    let r5 = and _ _ (r6 .0) in
+    let r4 = and _ _ (r5 .0) in
+    let r3 = and _ _ (r4 .0) in
+    let r2 = and _ _ (r3 .0) in
+    let r1 = and _ _ (r2 .0) in
+    record {
+      partitions-least = leb-true _ _ (r1 .0);
+      partitions-most = leb-true _ _ (r1 .1);
+      cells-least = leb-true _ _ (r2 .1);
+      cells-most = leb-true _ _ (r3 .1);
+      bound-least = leb-true _ _ (r4 .1);
+      bound-most = leb-true _ _ (r5 .1);
+      entries-least = leb-true _ _ (r6 .1);
+      entries-most = leb-true _ _ (r7 .1);
+      long = eqb-true _ _ (r8 .1);
+    }
+
+pub record EntryRules (before cells : ℕ) (x : Entry) : Type 0 where
+  pub kind-known : x .kind ≤ 2
+  pub flags-known : x .flags ≤ 7
+  pub first-even : x .first % 2 ≡ 0
+  pub n-even : x .n % 2 ≡ 0
+  pub n-least : 4 ≤ x .n
+  pub n-zeroizable : zeroizable x ≡ true → 6 ≤ x .n
+  pub after : before ≤ x .first
+  pub within : endOf x ≤ cells
+  pub life-cycle : lifeCycle x ≡ true → zeroizable x ≡ false
+  pub secret-hardware : secret x ≡ true → hardware x ≡ true
+  pub slot-zeroizable : slot x ≡ true → zeroizable x ≡ true
+  pub slot-secret : slot x ≡ true → secret x ≡ true
+  -- digest and indicator leave room for data
+  pub tail-least : 2 ≤ tailOf x
+  pub tail-most : tailOf x + 2 ≤ x .n
+
+-- the cells from the digest on: four of a zeroizable partition, two of any other
+pub tail-zeroizable : (x : Entry) → tailOf x ≡ cond (zeroizable x) 4 2
+tail-zeroizable x =
+    ⊎-elim (λ z. rw z (let q = eqb-true (x .flags % 2) 1 z in omega arith))
+    (λ z. rw z (let q = eqb-false (x .flags % 2) 1 z in omega arith))
+    (decided (zeroizable x))
+
+room : (x : Entry) → 4 ≤ x .n → (zeroizable x ≡ true → 6 ≤ x .n) → tailOf x + 2 ≤ x .n
+room x four six =
+    ⊎-elim (λ z. let n = six z in omega arith) (λ z. let q = eqb-false (x .flags % 2) 1 z in omega arith) (decided (zeroizable x))
+
+pub entry-rules : (before cells : ℕ) (x : Entry) (spare : ℕ) → entryGood before cells x spare ≡ true → EntryRules before cells x
+unfolding entryGood
+entry-rules before cells x spare g =
+    let r11 = and _ _ g in
+    let r10 = and _ _ (r11 .0) in
+    let r9 = and _ _ (r10 .0) in
+    let r8 = and _ _ (r9 .0) in
+    let r7 = and _ _ (r8 .0) in
+    let r6 = and _ _ (r7 .0) in
+    let r5 = and _ _ (r6 .0) in
+    let r4 = and _ _ (r5 .0) in
+    let r3 = and _ _ (r4 .0) in
+    let r2 = and _ _ (r3 .0) in
+    let r1 = and _ _ (r2 .0) in
+    let four : 4 ≤ x .n = leb-true _ _ (r5 .1) in
+    let six : zeroizable x ≡ true → 6 ≤ x .n = λ z. leb-true _ _ (implies _ _ (r6 .1) z) in
+    let both : slot x ≡ true → (zeroizable x ≡ true) × (secret x ≡ true) = λ z. and (zeroizable x) (secret x) (implies _ _ (r11 .1) z) in
+    record {
+      kind-known = leb-true _ _ (r1 .0);
+      flags-known = leb-true _ _ (r1 .1);
+      first-even = eqb-true _ _ (r3 .1);
+      n-even = eqb-true _ _ (r4 .1);
+      n-least = four;
+      n-zeroizable = six;
+      after = leb-true _ _ (r7 .1);
+      within = leb-true _ _ (r8 .1);
+      life-cycle = λ k. not-both _ _ (r9 .1) k;
+      secret-hardware = λ z. implies _ _ (r10 .1) z;
+      slot-zeroizable = λ z. both z .0;
+      slot-secret = λ z. both z .1;
+      tail-least = omega arith;
+      tail-most = room x four six;
+    }
+
+map-parts : (s : List ℕ) → mapGood s ≡ true → (headerGood (headerOf s) (length s) ≡ true) × (allBelow (placeGood s) (headerOf s .partitions) ≡ true)
+unfolding mapGood
+map-parts s g = let r = and _ _ g in (and _ _ (r .0) .0, r .1)
+
+pub map-header : (s : List ℕ) → mapGood s ≡ true → HeaderRules (headerOf s) (length s)
+map-header s g = header-rules _ _ (map-parts s g .0)
+
+pub map-entry : (s : List ℕ) → mapGood s ≡ true → (i : ℕ) → i < headerOf s .partitions → EntryRules (endBefore s i) (headerOf s .cells) (entryOf s i)
+unfolding placeGood
+map-entry s g i l = entry-rules _ _ _ _ (all-at (placeGood s) _ (map-parts s g .1) i l)
+
+-- entries ascend without overlap: one partition ends before any later one starts
+pub map-order : (s : List ℕ) → mapGood s ≡ true → (i j : ℕ) → i < j → j < headerOf s .partitions → endOf (entryOf s i) ≤ entryOf s j .first
+map-order s g i zero l lp = absurd (not-suc-le-zero l)
+map-order s g i (suc j) l lp =
+    let a : endOf (entryOf s j) ≤ entryOf s (suc j) .first = rw (ne-eqb (suc j) 0 (λ e. omega arith), suc-sub j) at (map-entry s g (suc j) lp .after) in
+    ⊎-elim (λ (e : i ≡ j). rw e a)
+    (λ (h : i < j). let b = map-order s g i j h (omega arith) in omega arith)
+    (eq-or-lt-of-le (le-of-suc-le-suc l))
+  where
+    suc-sub : (k : ℕ) → suc k - 1 ≡ k
+    suc-sub k = omega arith

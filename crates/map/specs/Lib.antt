@@ -1,0 +1,5 @@
+pub mod Map
+pub mod Word
+pub mod Laws
+pub mod WordLaws
+pub mod Vectors

@@ -1,0 +1,98 @@
+-- The rules at images, by computation: each broken image differs from a good one in the rule that it names; the edges on the good
+-- side are good. Also the words of a small array. Assumes nothing.
+use Prim.Native.Nat.{ℕ, zero, suc, _+_, _/_, _%_}
+use mathlib.Core.Path.{_≡_, refl}
+use mathlib.Core.Bool.{Bool, true, false}
+use mathlib.Core.List.{List, [], _∷_, _++_, map}
+use lib.ListN.{replicate}
+use Rattle.laws.specs.Below.{allBelow, firstFrom}
+use Rattle.endian.specs.Endian.{u16At}
+use Rattle.map.specs.Map.{headerGood, fillerGood, entryGood, placeGood, mapGood}
+use Rattle.map.specs.Word.{wordIn, holdsAt, wordAt}
+use Rattle.map.specs.declared.Lookup.{Lookup}
+use Rattle.map.specs.declared.Lookup.the-variants.{Word, Nothing}
+use Rattle.map.specs.declared.Role.the-variants.{Data, Digest, Indicator}
+
+abbrev u16 : ℕ → List ℕ
+u16 v = v % 256 ∷ v / 256 ∷ []
+
+abbrev entry : (first n kind flags : ℕ) → List ℕ
+entry first n kind flags = u16 first ++ u16 n ++ (kind ∷ flags ∷ 0 ∷ 0 ∷ [])
+
+abbrev image : (p c b e : ℕ) (filler entries : List ℕ) → List ℕ
+image p c b e filler entries = u16 p ++ u16 c ++ u16 b ++ u16 e ++ filler ++ entries
+
+-- entries of four cells, one after the other
+abbrev row : (count first : ℕ) → List ℕ
+row zero first = []
+row (suc k) first = entry first 4 0 0 ++ row k (first + 4)
+
+-- the small drive's two entries, and images with them
+abbrev two : List ℕ
+two = entry 0 6 0 7 ++ entry 6 6 1 0
+
+abbrev one : (entry : List ℕ) → List ℕ
+one x = image 1 12 60 8 [] x
+
+-- each breaks the one rule that stands beside it
+broken : List (List ℕ)
+broken =
+    -- P 0 and 17
+    image 0 12 60 8 [] [] ∷ image 17 2048 60 8 [] (row 17 0)
+    -- C 3 (with an end past C, since n is at least 4) and 2,049
+    ∷ image 1 3 60 8 [] (row 1 0) ∷ image 2 2049 60 8 [] two
+    -- B 32 and 65
+    ∷ image 2 12 32 8 [] two ∷ image 2 12 65 8 [] two
+    -- E 7, with the entries from byte 7 on, and 129
+    ∷ image 1 12 60 7 [] (0 ∷ 4 ∷ 0 ∷ 0 ∷ 0 ∷ 0 ∷ 0 ∷ []) ∷ image 2 12 60 129 (replicate 121 0) two
+    -- a filler byte that is not zero: the first, the last
+    ∷ image 2 12 60 10 (1 ∷ 0 ∷ []) two ∷ image 2 12 60 10 (0 ∷ 1 ∷ []) two
+    -- a byte too many, one too few
+    ∷ image 2 12 60 8 [] (two ++ (0 ∷ [])) ∷ image 1 12 60 8 [] (u16 0 ++ u16 4 ++ (0 ∷ 0 ∷ 0 ∷ []))
+    -- first odd, n odd, n 2, n 4 zeroizable
+    ∷ one (entry 1 4 0 0) ∷ one (entry 0 5 0 0) ∷ one (entry 0 2 0 0) ∷ one (entry 0 4 0 1)
+    -- overlap by two, end past C, descending
+    ∷ image 2 12 60 8 [] (entry 0 6 0 7 ++ entry 4 6 1 0) ∷ image 2 12 60 8 [] (entry 0 6 0 7 ++ entry 6 8 1 0)
+    ∷ image 2 12 60 8 [] (entry 6 6 1 0 ++ entry 0 6 0 7)
+    -- kind 3, flag 8
+    ∷ one (entry 0 6 3 0) ∷ one (entry 0 6 0 8)
+    -- life cycle zeroizable, secret in kind 1, slot without secret, slot without zeroizable
+    ∷ one (entry 0 6 2 1) ∷ one (entry 0 6 1 2) ∷ one (entry 0 6 0 5) ∷ one (entry 0 6 0 6)
+    -- each of the two zero bytes
+    ∷ one (u16 0 ++ u16 6 ++ (0 ∷ 7 ∷ 1 ∷ 0 ∷ [])) ∷ one (u16 0 ++ u16 6 ++ (0 ∷ 7 ∷ 0 ∷ 1 ∷ []))
+    ∷ []
+
+-- the edges on the good side
+edges : List (List ℕ)
+edges =
+    -- the small drive; P 16; C 4 and 2,048; B 33 and 64
+    image 2 12 60 8 [] two ∷ image 16 64 60 8 [] (row 16 0)
+    ∷ image 1 4 60 8 [] (row 1 0) ∷ image 2 2048 60 8 [] two
+    ∷ image 2 12 33 8 [] two ∷ image 2 12 64 8 [] two
+    -- E 128 and an odd E
+    ∷ image 2 12 60 128 (replicate 120 0) two ∷ image 2 12 60 9 (0 ∷ []) two
+    -- a gap; n 4 not zeroizable; life cycle; a zeroizable software partition
+    ∷ image 2 14 60 8 [] (entry 0 6 0 7 ++ entry 8 6 1 0) ∷ one (entry 0 4 0 0) ∷ one (entry 0 6 2 0) ∷ one (entry 0 6 1 1)
+    ∷ []
+
+-- an image that is empty or cut is no map
+cut : List (List ℕ)
+cut = [] ∷ (2 ∷ []) ∷ (2 ∷ 0 ∷ 12 ∷ 0 ∷ 60 ∷ 0 ∷ 8 ∷ []) ∷ image 2 12 60 8 [] [] ∷ []
+
+rules : (map mapGood broken ≡ replicate 27 false) × (map mapGood edges ≡ replicate 12 true) × (map mapGood cut ≡ replicate 4 false)
+unfolding broken edges cut mapGood headerGood fillerGood entryGood placeGood allBelow u16At
+rules = (refl, refl, refl)
+
+-- a slot of pairs, a gap, and a zeroizable software partition: the word at each of 16 cells
+words : List Lookup
+words = map (wordAt (image 2 16 60 8 [] (entry 0 6 0 7 ++ entry 8 8 1 1))) (0 ∷ 1 ∷ 2 ∷ 3 ∷ 4 ∷ 5 ∷ 6 ∷ 7 ∷ 8 ∷ 9 ∷ 10 ∷ 11 ∷ 12 ∷ 13 ∷ 14 ∷ 15 ∷ 16 ∷ [])
+
+word-table :
+    words
+    ≡ Word 0 Data true ∷ Nothing ∷ Word 0 Digest true ∷ Nothing ∷ Word 0 Indicator true ∷ Nothing
+    ∷ Nothing ∷ Nothing
+    ∷ Word 1 Data false ∷ Word 1 Data false ∷ Word 1 Data false ∷ Word 1 Data false ∷ Word 1 Digest true ∷ Nothing ∷ Word 1 Indicator true ∷ Nothing
+    ∷ Nothing
+    ∷ []
+unfolding words wordAt wordIn holdsAt firstFrom u16At
+word-table = refl

@@ -1,0 +1,169 @@
+-- What the lookup of a word tells: first what its proof cites, then, in a good map, where a word lies, and that a cell has its word
+-- in the one partition that holds it. Assumes nothing.
+use Prim.Native.Nat.{ℕ, _+_, _-_, _*_, _%_, _≤_, _<_}
+use mathlib.Core.Path.{_≡_, refl, sym, ap, subst, _∙_}
+use mathlib.Core.Logic.{_⊎_, inl, inr, ⊎-elim}
+use mathlib.Core.Bool.{Bool, true, false, cond, _&&_, not, false≢true}
+use mathlib.Core.List.{List}
+use native.Mathlib.Omega.{arith}
+use native.Mathlib.Nat.{eq-or-lt-of-le}
+use borrow.Author.Tests.{leb-true, ltb-true, ltb-false, eqb-true, eqb-false, eq-eqb, lt-ltb, le-ltb}
+use lib.Dec.{eqb, leb, ltb}
+use Rattle.laws.specs.Tests.{decided, not-yes, and}
+use Rattle.laws.specs.Below.{firstBelow, first-tells, first-is}
+use Rattle.map.specs.declared.Header.{Header}
+use Rattle.map.specs.declared.Entry.{Entry}
+use Rattle.map.specs.declared.Role.{Role}
+use Rattle.map.specs.declared.Role.the-variants.{Data, Digest, Indicator}
+use Rattle.map.specs.declared.Lookup.{Lookup}
+use Rattle.map.specs.declared.Lookup.the-variants.{Word, Nothing}
+use Rattle.map.specs.Map.{headerOf, entryOf, endOf, software, zeroizable, mapGood}
+use Rattle.fuse.specs.Fuse.{cellsIn}
+use Rattle.map.specs.Word.{tailOf, left, holds, wordIn, holdsAt, partitionOf, wordAt}
+use Rattle.map.specs.Laws.{map-entry, map-order}
+
+pub held : (x : Entry) (cell : ℕ) → holds x cell ≡ true → (x .first ≤ cell) × (cell < endOf x)
+held x cell h = let r = and (leb (x .first) cell) (ltb cell (endOf x)) h in (leb-true _ _ (r .0), ltb-true _ _ (r .1))
+
+-- ---- the lookup, at the header, the number and the entry that were read
+
+module _ (s : List ℕ) (cell : ℕ) (h : Header) (i : ℕ) (e : h ≡ headerOf s) (p : i ≡ partitionOf s cell) where
+  -- the partition that was found holds the cell
+  found-holds : i < h .partitions → holds (entryOf s i) cell ≡ true
+  unfolding holdsAt
+  found-holds l =
+      let q = ap (λ (x : Header). x .partitions) e in
+      let k : partitionOf s cell < headerOf s .partitions = omega arith in
+      rw p (first-tells (holdsAt s cell) 0 (headerOf s .partitions) .at (omega arith))
+
+  pub found-in : (x : Entry) → i < h .partitions → x ≡ entryOf s i → cell < endOf x
+  found-in x l q = rw q (held (entryOf s i) cell (found-holds l) .1)
+
+  pub word-found : (x : Entry) (r : Lookup) → i < h .partitions → x ≡ entryOf s i → r ≡ wordIn x i cell → r ≡ wordAt s cell
+  unfolding wordAt
+  word-found x r l q t =
+      let k : ltb i (headerOf s .partitions) ≡ true = lt-ltb _ _ (rw e at l) in
+      rw (← p, k) (t ∙ ap (λ (y : Entry). wordIn y i cell) q)
+
+  pub word-none : h .partitions ≤ i → Nothing ≡ wordAt s cell
+  unfolding wordAt
+  word-none l =
+      let k : ltb i (headerOf s .partitions) ≡ false = le-ltb _ _ (rw e at l) in
+      rw (← p, k)
+
+-- ---- in a good map
+
+-- no cell lies in two partitions
+pub apart : (s : List ℕ) → mapGood s ≡ true → (i j cell : ℕ) → i < j → j < headerOf s .partitions → holds (entryOf s i) cell ≡ true → holds (entryOf s j) cell ≡ true → ⊥
+apart s g i j cell l p a b =
+    let o = map-order s g i j l p in
+    let x = held (entryOf s i) cell a in
+    let y = held (entryOf s j) cell b in
+    omega arith
+
+-- so the word at a cell is the one that its partition has there
+pub word-of : (s : List ℕ) → mapGood s ≡ true → (i cell : ℕ) → i < headerOf s .partitions → holds (entryOf s i) cell ≡ true → wordAt s cell ≡ wordIn (entryOf s i) i cell
+unfolding holdsAt
+word-of s g i cell l h =
+    let p : i ≡ partitionOf s cell = sym (first-is (holdsAt s cell) _ i l h (λ j q. not-yes _ (λ a. apart s g j i cell q l a h))) in
+    sym (word-found s cell (headerOf s) i refl p (entryOf s i) (wordIn (entryOf s i) i cell) l refl refl)
+
+-- ---- what an answer says of the cell
+
+-- where a word of each role lies in its partition
+abbrev pub Lies : Entry → (cell : ℕ) → Role → (wide : Bool) → Type 0
+Lies x cell Data wide = (cell + cellsIn wide + tailOf x ≤ endOf x) × (wide ≡ not (software x))
+Lies x cell Digest wide = (cell + tailOf x ≡ endOf x) × (wide ≡ true)
+Lies x cell Indicator wide = (cell + 2 ≡ endOf x) × (wide ≡ true) × (zeroizable x ≡ true)
+
+pub record Found (s : List ℕ) (cell i : ℕ) (role : Role) (wide : Bool) : Type 0 where
+  pub partition : i < headerOf s .partitions
+  pub low : entryOf s i .first ≤ cell
+  pub high : cell + cellsIn wide ≤ endOf (entryOf s i)
+  pub within : cell + cellsIn wide ≤ headerOf s .cells
+  pub even : wide ≡ true → cell % 2 ≡ 0
+  pub lies : Lies (entryOf s i) cell role wide
+
+-- the tests on the way to each answer of `wordIn`
+module _ (x : Entry) (i cell : ℕ) where
+  abbrev Tests : Lookup → Type 0
+  Tests (Word j Data wide) = (j ≡ i) × (tailOf x < left x cell) × (wide ≡ not (software x)) × (wide ≡ true → cell % 2 ≡ 0)
+  Tests (Word j Digest wide) = (j ≡ i) × (left x cell ≡ tailOf x) × (wide ≡ true)
+  Tests (Word j Indicator wide) = (j ≡ i) × (left x cell ≡ 2) × (left x cell < tailOf x) × (wide ≡ true)
+  Tests Nothing = Unit {0}
+
+  either : (b : Bool) (p q : Lookup) → (b ≡ true → Tests p) → (b ≡ false → Tests q) → Tests (cond b p q)
+  either true p q f g = f refl
+  either false p q f g = g refl
+
+  named : (role : Role) (wide : Bool) (j : ℕ) → Tests (Word j role wide) → j ≡ i
+  named Data wide j t = t .0
+  named Digest wide j t = t .0
+  named Indicator wide j t = t .0
+
+  abbrev data-word : Lookup
+  data-word = cond (eqb (cell % 2) 0) (Word i Data true) Nothing
+
+  abbrev last-word : Lookup
+  last-word = cond (eqb (left x cell) 2) (Word i Indicator true) Nothing
+
+  tests : Tests (wordIn x i cell)
+  unfolding wordIn
+  tests =
+      either (ltb (tailOf x) (left x cell)) (cond (software x) (Word i Data false) data-word) (cond (eqb (left x cell) (tailOf x)) (Word i Digest true) last-word)
+      (λ a. either (software x) (Word i Data false) data-word
+      (λ b. (refl, ltb-true _ _ a, sym (ap not b), λ n. absurd (false≢true n)))
+      (λ b. either (eqb (cell % 2) 0) (Word i Data true) Nothing (λ d. (refl, ltb-true _ _ a, sym (ap not b), λ _. eqb-true _ _ d)) (λ d. tt)))
+      (λ a. either (eqb (left x cell) (tailOf x)) (Word i Digest true) last-word
+      (λ b. (refl, eqb-true _ _ b, refl))
+      (λ b. either (eqb (left x cell) 2) (Word i Indicator true) Nothing
+      (λ d. (refl, eqb-true _ _ d, below (left x cell) (tailOf x) (ltb-false _ _ a) (eqb-false _ _ b), refl)) (λ d. tt)))
+    where
+      below : (m n : ℕ) → m ≤ n → (m ≡ n → ⊥) → m < n
+      below m n l e = ⊎-elim (λ q. absurd (e q)) (λ q. q) (eq-or-lt-of-le l)
+
+-- what the tests give in a good map
+module _ (s : List ℕ) (g : mapGood s ≡ true) (cell k : ℕ) (l : k < headerOf s .partitions) (h : holds (entryOf s k) cell ≡ true) where
+  abbrev x : Entry
+  x = entryOf s k
+
+  place : (role : Role) (wide : Bool) → Tests x k cell (Word k role wide) → Found s cell k role wide
+  place Data true t =
+      let r = map-entry s g k l in
+      let c = held x cell h in
+      let even = t .3 refl in
+      record { partition = l; low = c .0; high = omega arith; within = omega arith; even = λ _. even; lies = (omega arith, t .2) }
+  place Data false t =
+      let r = map-entry s g k l in
+      let c = held x cell h in
+      record { partition = l; low = c .0; high = omega arith; within = omega arith; even = λ n. absurd (false≢true n); lies = (omega arith, t .2) }
+  place Digest wide t = rw (t .2) (
+      let r = map-entry s g k l in
+      let c = held x cell h in
+      record { partition = l; low = c .0; high = omega arith; within = omega arith; even = λ _. omega arith; lies = (omega arith, refl) })
+  place Indicator wide t = rw (t .3) (
+      let r = map-entry s g k l in
+      let c = held x cell h in
+      record { partition = l; low = c .0; high = omega arith; within = omega arith; even = λ _. omega arith; lies = (omega arith, refl, eq-eqb (x .flags % 2) 1 (omega arith)) })
+
+  -- so at an answer that names some partition i, the partition is k
+  at-answer : (i : ℕ) (role : Role) (wide : Bool) → Word i role wide ≡ wordIn x k cell → Found s cell i role wide
+  at-answer i role wide q =
+      let t : Tests x k cell (Word i role wide) = subst (Tests x k cell) (sym q) (tests x k cell) in
+      let e : i ≡ k = named x k cell role wide i t in
+      subst (λ (j : ℕ). Found s cell j role wide) (sym e) (place role wide (subst (λ (j : ℕ). Tests x k cell (Word j role wide)) e t))
+
+-- each word that the lookup answers lies in the partition that it names
+pub word-tells : (s : List ℕ) → mapGood s ≡ true → (cell i : ℕ) (role : Role) (wide : Bool) → Word i role wide ≡ wordAt s cell → Found s cell i role wide
+unfolding wordAt
+word-tells s g cell i role wide q =
+    let k = partitionOf s cell in
+    ⊎-elim
+    (λ (a : ltb k (headerOf s .partitions) ≡ true).
+    let l = ltb-true _ _ a in
+    at-answer s g cell k l (found-holds s cell (headerOf s) k refl refl l) i role wide (rw a at q))
+    (λ (a : ltb k (headerOf s .partitions) ≡ false).
+    let n : Word i role wide ≡ Nothing = rw a at q in
+    let z : _≡_ {A = ℕ} 0 1 = cc in
+    absurd (omega arith))
+    (decided (ltb k (headerOf s .partitions)))

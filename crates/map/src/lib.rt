@@ -1,0 +1,294 @@
+// The map of the fuses: an image of bytes, judged by every rule of the document and read. Each
+// function answers for any bytes of any length; only a good map's fields mean anything. The rules
+// are in `specs/Map`, the words in `specs/Word`, what a good map gives its callers in `specs/Laws`
+// and `specs/WordLaws`. It rests on `endian` and `laws`.
+ghost use mathlib.Core.Path.{_≡_};
+ghost use mathlib.Core.Bool.{true};
+ghost use Prim.Native.Nat.{_+_, _*_, _<_, _≤_};
+ghost use lib.ListN.{length};
+ghost use Rattle.laws.specs.Below.{allBelow};
+ghost use Rattle.map.specs.Map.{headerOf, entryOf, endOf, zeroizable, secret, slot, headerGood, fillerGood, entryGood, endBefore, placeGood, mapGood};
+ghost use Rattle.map.specs.Word.{holds, partitionOf, wordIn, wordAt};
+
+// The four numbers at the start of an image.
+pub struct Header {
+    pub partitions: u16,
+    pub cells: u16,
+    pub bound: u16,
+    pub entries: u16,
+}
+
+// One partition: its first cell, its number of cells, its kind and its flags.
+pub struct Entry {
+    pub first: u16,
+    pub n: u16,
+    pub kind: u8,
+    pub flags: u8,
+}
+
+// The kinds that a rule names.
+const HARDWARE: u8 = 0;
+
+const SOFTWARE: u8 = 1;
+
+const LIFE_CYCLE: u8 = 2;
+
+// The header of an image.
+pub fn read_header(image: &[u8]) -> Header
+    ensures { λ r. ⌜ r ≡ headerOf (now (image .entry)) ⌝ }
+{
+    Header {
+        partitions: endian::u16_at(image, 0),
+        cells: endian::u16_at(image, 2),
+        bound: endian::u16_at(image, 4),
+        entries: endian::u16_at(image, 6),
+    }
+}
+
+// Where entry `i` of an image starts.
+fn entry_place(image: &[u8], i: u32) -> usize
+    ensures { λ r. ⌜ (r ≡ headerOf (now (image .entry)) .entries + 8 * i) × (r < 34359803903) ⌝ }
+{
+    let entries = endian::u16_at(image, 6);
+    (entries as usize) + 8 * (i as usize)
+}
+
+// Entry `i` of an image.
+pub fn read_entry(image: &[u8], i: u32) -> Entry
+    ensures { λ r. ⌜ r ≡ entryOf (now (image .entry)) i ⌝ }
+{
+    let at = entry_place(image, i);
+    Entry {
+        first: endian::u16_at(image, at),
+        n: endian::u16_at(image, at + 2),
+        kind: endian::byte_at(image, at + 4),
+        flags: endian::byte_at(image, at + 5),
+    }
+}
+
+// The cell past a partition's last.
+pub fn end_of(x: Entry) -> usize
+    ensures { λ r. ⌜ r ≡ endOf x ⌝ }
+{
+    (x.first as usize) + (x.n as usize)
+}
+
+// Whether a partition can be zeroized.
+pub fn is_zeroizable(x: Entry) -> bool
+    ensures { λ r. ⌜ r ≡ zeroizable x ⌝ }
+{
+    x.flags % 2 == 1
+}
+
+// Whether a partition is secret.
+pub fn is_secret(x: Entry) -> bool
+    ensures { λ r. ⌜ r ≡ secret x ⌝ }
+{
+    x.flags / 2 % 2 == 1
+}
+
+// Whether a partition is a HEK slot.
+pub fn is_slot(x: Entry) -> bool
+    ensures { λ r. ⌜ r ≡ slot x ⌝ }
+{
+    x.flags / 4 % 2 == 1
+}
+
+// Whether the header of an image of `len` bytes keeps its rules.
+fn header_good(h: Header, len: usize) -> bool
+    ensures { λ r. ⌜ r ≡ headerGood h len ⌝ }
+{
+    (1 <= h.partitions)
+        & (h.partitions <= 16)
+        & (4 <= h.cells)
+        & (h.cells <= 2048)
+        & (33 <= h.bound)
+        & (h.bound <= 64)
+        & (8 <= h.entries)
+        & (h.entries <= 128)
+        & (len == (h.entries as usize) + 8 * (h.partitions as usize))
+}
+
+// Whether bytes 8 up to `entries` are zero.
+fn filler_good(image: &[u8], entries: usize) -> bool
+    requires { ⌜ 8 ≤ entries ⌝ }
+    ensures { λ r. ⌜ r ≡ allBelow (fillerGood (now (image .entry))) entries ⌝ }
+{
+    let mut k: usize = 8;
+    while k < entries {
+        if endian::byte_at(image, k) != 0 {
+            return false;
+        }
+        k += 1;
+    }
+    true
+}
+
+// Whether an entry keeps its rules, where the one before it ends at `before`, the array has `cells`
+// cells and the entry's last two bytes read `spare`.
+fn entry_good(before: usize, cells: u16, x: Entry, spare: u16) -> bool
+    ensures { λ r. ⌜ r ≡ entryGood before cells x spare ⌝ }
+{
+    let zeroizable = is_zeroizable(x);
+    let secret = is_secret(x);
+    let slot = is_slot(x);
+    let end = end_of(x);
+    (x.kind <= 2)
+        & (x.flags <= 7)
+        & (spare == 0)
+        & (x.first % 2 == 0)
+        & (x.n % 2 == 0)
+        & (4 <= x.n)
+        & (!zeroizable | (6 <= x.n))
+        & (before <= (x.first as usize))
+        & (end <= (cells as usize))
+        & !((x.kind == LIFE_CYCLE) & zeroizable)
+        & (!secret | (x.kind == HARDWARE))
+        & (!slot | zeroizable & secret)
+}
+
+// Where the entry before entry `i` ends, 0 before the first.
+fn end_before(image: &[u8], i: u32) -> usize
+    ensures { λ r. ⌜ r ≡ endBefore (now (image .entry)) i ⌝ }
+{
+    if i == 0 {
+        return 0;
+    }
+    end_of(read_entry(image, i - 1))
+}
+
+// Whether entry `i` of an image keeps its rules.
+fn place_good(image: &[u8], i: u32) -> bool
+    ensures { λ r. ⌜ r ≡ placeGood (now (image .entry)) i ⌝ }
+{
+    let before = end_before(image, i);
+    let h = read_header(image);
+    let x = read_entry(image, i);
+    let at = entry_place(image, i);
+    let spare = endian::u16_at(image, at + 6);
+    entry_good(before, h.cells, x, spare)
+}
+
+// Whether the first `partitions` entries keep their rules.
+fn entries_good(image: &[u8], partitions: u16) -> bool
+    ensures { λ r. ⌜ r ≡ allBelow (placeGood (now (image .entry))) partitions ⌝ }
+{
+    let mut i: u32 = 0;
+    while i < (partitions as u32) {
+        if !place_good(image, i) {
+            return false;
+        }
+        i += 1;
+    }
+    true
+}
+
+// Whether an image is a map that breaks no rule.
+pub fn is_good(image: &[u8]) -> bool
+    ensures { λ r. ⌜ r ≡ mapGood (now (image .entry)) ⌝ }
+{
+    let h = read_header(image);
+    if !header_good(h, image.len()) {
+        return false;
+    }
+    if !filler_good(image, h.entries as usize) {
+        return false;
+    }
+    entries_good(image, h.partitions)
+}
+
+// What a word holds.
+pub enum Role {
+    Data,
+    Digest,
+    Indicator,
+}
+
+// The word that starts at a cell: its partition, what it holds, and whether it is a pair (`wide`)
+// or one cell; or none.
+pub enum Lookup {
+    Word {
+        partition: u32,
+        role: Role,
+        wide: bool,
+    },
+    Nothing,
+}
+
+// Whether a cell lies in a partition.
+fn holds_cell(x: Entry, cell: u32) -> bool
+    ensures { λ r. ⌜ r ≡ holds x cell ⌝ }
+{
+    let end = end_of(x);
+    ((x.first as u32) <= cell) & ((cell as usize) < end)
+}
+
+// The partition that holds a cell, the number of partitions where none does.
+fn partition_of(image: &[u8], cell: u32) -> u32
+    ensures { λ r. ⌜ r ≡ partitionOf (now (image .entry)) cell ⌝ }
+{
+    let h = read_header(image);
+    let partitions = h.partitions as u32;
+    let mut i: u32 = 0;
+    while i < partitions {
+        let x = read_entry(image, i);
+        if holds_cell(x, cell) {
+            return i;
+        }
+        i += 1;
+    }
+    partitions
+}
+
+// The word that starts at a cell of partition `i`.
+fn word_in(x: Entry, i: u32, cell: u32) -> Lookup
+    requires { ⌜ cell < endOf x ⌝ }
+    ensures { λ r. ⌜ r ≡ wordIn x i cell ⌝ }
+{
+    let left = end_of(x) - (cell as usize);
+    let tail = 2 + 2 * ((x.flags % 2) as usize);
+    if tail < left {
+        if x.kind == SOFTWARE {
+            return Lookup::Word {
+                partition: i,
+                role: Role::Data,
+                wide: false,
+            };
+        }
+        if cell % 2 == 0 {
+            return Lookup::Word {
+                partition: i,
+                role: Role::Data,
+                wide: true,
+            };
+        }
+        return Lookup::Nothing;
+    }
+    if left == tail {
+        return Lookup::Word {
+            partition: i,
+            role: Role::Digest,
+            wide: true,
+        };
+    }
+    if left == 2 {
+        return Lookup::Word {
+            partition: i,
+            role: Role::Indicator,
+            wide: true,
+        };
+    }
+    Lookup::Nothing
+}
+
+// The word that starts at a cell of the whole array.
+pub fn word_at(image: &[u8], cell: u32) -> Lookup
+    ensures { λ r. ⌜ r ≡ wordAt (now (image .entry)) cell ⌝ }
+{
+    let h = read_header(image);
+    let i = partition_of(image, cell);
+    if i < (h.partitions as u32) {
+        return word_in(read_entry(image, i), i, cell);
+    }
+    Lookup::Nothing
+}

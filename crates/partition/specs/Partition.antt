@@ -1,0 +1,68 @@
+-- Document 01, "Burning and counting", over a partition's cells, counted from where the partition starts. Assumes nothing.
+use Prim.Native.Nat.{ℕ, _+_, _-_, _*_, _/_}
+use mathlib.Core.Bool.{Bool, cond, _&&_, not}
+use mathlib.Core.List.{List}
+use lib.ListN.{length, getD}
+use lib.Dec.{eqb, leb, ltb}
+use Rattle.laws.specs.Below.{allBelow, countBelow, firstBelow}
+use Rattle.fuse.specs.Fuse.{pairOf, short}
+use Rattle.partition.specs.declared.Lowest.{Lowest}
+use Rattle.partition.specs.declared.Lowest.the-variants.{Cell, Nothing}
+use Rattle.partition.specs.declared.State.{State}
+use Rattle.partition.specs.declared.State.the-variants.{Erased, Torn, Blank, Programmed}
+use Rattle.partition.specs.declared.Survey.{Survey}
+
+-- how many pairs the cells form
+abbrev pub pairs : (part : List ℕ) → ℕ
+pairs part = length part / 2
+
+-- "An even cell and the next form a pair": pair j
+abbrev pub pairAt : (part : List ℕ) (j : ℕ) → ℕ
+pairAt part j = pairOf (getD part (2 * j) 0) (getD part (2 * j + 1) 0)
+
+-- "A pair is short when its number of ones is below B": pair j is
+unfoldable pub shortAt : (bound : ℕ) (part : List ℕ) (j : ℕ) → Bool
+shortAt bound part j = short bound (pairAt part j)
+
+-- the number of short pairs
+abbrev pub shortPairs : (bound : ℕ) (part : List ℕ) → ℕ
+shortPairs bound part = countBelow (shortAt bound part) (pairs part)
+
+-- the first cell of the lowest short pair, or none
+abbrev pub lowestPair : (bound : ℕ) (part : List ℕ) → ℕ
+lowestPair bound part = firstBelow (shortAt bound part) (pairs part)
+
+unfoldable pub lowestShort : (bound : ℕ) (part : List ℕ) → Lowest
+lowestShort bound part = cond (ltb (lowestPair bound part) (pairs part)) (Cell (2 * lowestPair bound part)) Nothing
+
+-- "A partition is counted as zeroized when it is zeroizable and its indicator is not short"; the indicator is the last pair
+unfoldable pub counted : (zeroizable : Bool) (bound : ℕ) (part : List ℕ) → Bool
+counted zeroizable bound part = zeroizable && leb 1 (pairs part) && not (shortAt bound part (pairs part - 1))
+
+-- the cells from the digest on: digest and indicator of a zeroizable partition, the digest of any other
+abbrev pub tail : (zeroizable : Bool) → ℕ
+tail zeroizable = cond zeroizable 4 2
+
+-- "The remaining cells are data"
+abbrev pub dataCells : (zeroizable : Bool) (part : List ℕ) → ℕ
+dataCells zeroizable part = length part - tail zeroizable
+
+unfoldable pub zeroCell : (part : List ℕ) (k : ℕ) → Bool
+zeroCell part k = eqb (getD part k 0) 0
+
+-- "every data cell zero"
+abbrev pub noData : (zeroizable : Bool) (part : List ℕ) → Bool
+noData zeroizable part = allBelow (zeroCell part) (dataCells zeroizable part)
+
+-- "Its state is one of four"
+unfoldable pub stateOf : (zeroizable : Bool) (bound : ℕ) (part : List ℕ) → State
+stateOf zeroizable bound part =
+    cond (counted zeroizable bound part)
+    -- erased: counted as zeroized, no pair short; torn: counted as zeroized, some pair short
+    (cond (eqb (shortPairs bound part) 0) Erased Torn)
+    -- blank: not counted, every data cell zero; programmed: not counted, some data fuse set
+    (cond (noData zeroizable part) Blank Programmed)
+
+-- a partition's state and short pairs together
+abbrev pub surveyOf : (zeroizable : Bool) (bound : ℕ) (part : List ℕ) → Survey
+surveyOf zeroizable bound part = record { state = stateOf zeroizable bound part; short = shortPairs bound part }

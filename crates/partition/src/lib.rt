@@ -1,0 +1,133 @@
+// One partition's cells, from where the partition starts: its short pairs, whether it counts as
+// zeroized, and its state. Each pair is counted whole against the bound; nothing is summed over
+// the partition. The definitions are in `specs/Partition`, the laws for callers in `specs/Laws`.
+// It rests on `fuse` and `laws`. Every function answers for any number of cells.
+ghost use mathlib.Core.Path.{_≡_};
+ghost use Prim.Native.Nat.{_+_, _*_, _<_, _≤_};
+ghost use lib.ListN.{length};
+ghost use Rattle.partition.specs.Partition.{shortAt, shortPairs, lowestShort, counted, tail, noData, stateOf, surveyOf};
+
+// The first cell of the lowest short pair, counted from the partition's start.
+pub enum Lowest {
+    Cell(usize),
+    Nothing,
+}
+
+// What a partition's fuses say.
+pub enum State {
+    Erased,
+    Torn,
+    Blank,
+    Programmed,
+}
+
+// A partition's state and its number of short pairs.
+pub struct Survey {
+    pub state: State,
+    pub short: usize,
+}
+
+// Whether pair `j` is short.
+fn short_at(part: &[u32], j: usize, bound: u64) -> bool
+    requires { ⌜ 2 * j + 1 < length (now part) ⌝ }
+    ensures { λ r. ⌜ r ≡ shortAt bound (now (part .entry)) j ⌝ }
+{
+    fuse::is_short(part[2 * j], part[2 * j + 1], bound)
+}
+
+// The number of short pairs.
+pub fn short_pairs(part: &[u32], bound: u64) -> usize
+    ensures { λ r. ⌜ r ≡ shortPairs bound (now (part .entry)) ⌝ }
+{
+    let pairs = part.len() / 2;
+    let mut short: usize = 0;
+    let mut j: usize = 0;
+    while j < pairs {
+        if short_at(part, j, bound) {
+            short += 1;
+        }
+        j += 1;
+    }
+    short
+}
+
+// The lowest short pair.
+pub fn lowest_short(part: &[u32], bound: u64) -> Lowest
+    ensures { λ r. ⌜ r ≡ lowestShort bound (now (part .entry)) ⌝ }
+{
+    let pairs = part.len() / 2;
+    let mut j: usize = 0;
+    while j < pairs {
+        if short_at(part, j, bound) {
+            return Lowest::Cell(2 * j);
+        }
+        j += 1;
+    }
+    Lowest::Nothing
+}
+
+// Whether a partition counts as zeroized: it is zeroizable and its indicator, the last pair, is not
+// short.
+pub fn is_counted(part: &[u32], bound: u64, zeroizable: bool) -> bool
+    ensures { λ r. ⌜ r ≡ counted zeroizable bound (now (part .entry)) ⌝ }
+{
+    let pairs = part.len() / 2;
+    if !zeroizable {
+        return false;
+    }
+    if pairs < 1 {
+        return false;
+    }
+    !short_at(part, pairs - 1, bound)
+}
+
+// The cells from the digest on.
+fn tail_cells(zeroizable: bool) -> usize
+    ensures { λ r. ⌜ (r ≡ tail zeroizable) × (r ≤ 4) ⌝ }
+{
+    if zeroizable { 4 } else { 2 }
+}
+
+// Whether every data cell is zero.
+fn no_data(part: &[u32], zeroizable: bool) -> bool
+    ensures { λ r. ⌜ r ≡ noData zeroizable (now (part .entry)) ⌝ }
+{
+    let tail = tail_cells(zeroizable);
+    let mut k: usize = 0;
+    while k + tail < part.len() {
+        if part[k] != 0 {
+            return false;
+        }
+        k += 1;
+    }
+    true
+}
+
+// A partition's state, and its short pairs, which the state's first question counts anyway.
+pub fn survey_cells(part: &[u32], bound: u64, zeroizable: bool) -> Survey
+    ensures { λ r. ⌜ r ≡ surveyOf zeroizable bound (now (part .entry)) ⌝ }
+{
+    let short = short_pairs(part, bound);
+    if is_counted(part, bound, zeroizable) {
+        if short == 0 {
+            return Survey {
+                state: State::Erased,
+                short,
+            };
+        }
+        return Survey {
+            state: State::Torn,
+            short,
+        };
+    }
+    if no_data(part, zeroizable) {
+        return Survey {
+            state: State::Blank,
+            short,
+        };
+    }
+    Survey {
+        state: State::Programmed,
+        short,
+    }
+}

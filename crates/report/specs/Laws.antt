@@ -1,0 +1,156 @@
+-- What the writers of the printed lines cite: a number's digits are put as its decimal, and each piece has a most length. Assumes nothing.
+use Prim.Native.Nat.{ℕ, suc, _+_, _-_, _*_, _/_, _≤_, _<_}
+use mathlib.Core.Path.{_≡_, refl, sym, ap, _∙_}
+use mathlib.Core.Bool.{Bool, true, false, cond, not}
+use mathlib.Core.List.{List, [], _∷_, _++_}
+use native.Mathlib.Omega.{arith}
+use lib.ListN.{length, take, drop, getD, set, length-append, length-drop}
+use lib.Seq.{take-all, take-at, drop-cons, set-at, append-snoc}
+use native.Mathlib.Numerals.{add-one}
+use native.Mathlib.Nat.{zero-add}
+use Rattle.laws.specs.Below.{joinBelow, join-step, join-ones}
+use Rattle.endian.specs.Endian.{u32At}
+use Rattle.map.specs.declared.Header.{Header}
+use Rattle.map.specs.declared.Entry.{Entry}
+use Rattle.map.specs.Laws.{map-header}
+use Rattle.partition.specs.declared.Survey.{Survey}
+use borrow.Author.Tests.{lt-ltb, le-ltb, eq-eqb, ne-eqb, ltb-false, eqb-true, not-false}
+use lib.Dec.{eqb, ltb}
+use Rattle.drive.specs.declared.ActiveSlot.{ActiveSlot}
+use Rattle.drive.specs.Drive.{surveyAt, activeSlot, slotNumber, available}
+use Rattle.map.specs.Map.{headerOf, entryOf, mapGood}
+use Rattle.report.specs.declared.Reading.{Reading}
+use Rattle.report.specs.declared.Reading.the-variants.{Drive, Refused}
+use Rattle.report.specs.Status.{mapLength, imageOf, cellCount, numberAt, cellsOf, readingOf, lineOf, hekLine, lineAt, tableOf, printed, statusOf, Printed}
+use Rattle.text.specs.Text.{text, decimal}
+use Rattle.text.specs.Put.{Put}
+
+-- ---- the last line
+
+pub hek-none : (slot : ActiveSlot) → available slot ≡ false → hekLine slot ≡ text "hek none\n"
+unfolding hekLine
+hek-none slot e = rw e
+
+pub hek-some : (slot : ActiveSlot) (i : ℕ) → available slot ≡ true → i ≡ slotNumber slot → hekLine slot ≡ text "hek " ++ decimal i ++ text "\n"
+unfolding hekLine
+hek-some slot i e n = rw (e, n)
+
+-- ---- the refusals, at the map's length and the header that were read
+
+module _ (input : List ℕ) where
+  pub cut-length : length input < 2 → readingOf input ≡ Refused 2
+  unfolding readingOf
+  cut-length l = simp (lt-ltb _ _ l)
+
+  module _ (len : ℕ) (e : len ≡ mapLength input) (two : 2 ≤ length input) where
+    pub long-map : 256 < len → readingOf input ≡ Refused 1
+    unfolding readingOf
+    long-map l = rw (← e) (simp (le-ltb _ _ two, lt-ltb _ _ l))
+
+    pub cut-map : len ≤ 256 → length input < 2 + len → readingOf input ≡ Refused 2
+    unfolding readingOf
+    cut-map n l = rw (← e) (simp (le-ltb _ _ two, le-ltb _ _ n, lt-ltb _ _ l))
+
+    -- the image as the code lends it
+    pub image-is : take (2 + len - 2) (drop 2 input) ≡ imageOf input
+    image-is = let q : 2 + len - 2 ≡ mapLength input = omega arith in rw q
+
+    module _ (n : len ≤ 256) (whole : 2 + len ≤ length input) where
+      pub bad-map : mapGood (imageOf input) ≡ false → readingOf input ≡ Refused 1
+      unfolding readingOf
+      bad-map g = let k : mapLength input ≤ 256 = omega arith in let w : 2 + mapLength input ≤ length input = omega arith in simp (le-ltb _ _ two, le-ltb _ _ k, le-ltb _ _ w, g)
+
+      module _ (g : mapGood (imageOf input) ≡ true) where
+        pub whole-drive : length input ≡ 2 + len + 8 * cellCount input → readingOf input ≡ Drive
+        unfolding readingOf
+        whole-drive l = let k : mapLength input ≤ 256 = omega arith in let w : 2 + mapLength input ≤ length input = omega arith in let q : length input ≡ 2 + mapLength input + 8 * cellCount input = omega arith in simp (le-ltb _ _ two, le-ltb _ _ k, le-ltb _ _ w, g, eq-eqb _ _ q)
+
+        pub not-whole : (length input ≡ 2 + len + 8 * cellCount input → ⊥) → readingOf input ≡ Refused 2
+        unfolding readingOf
+        not-whole l = let k : mapLength input ≤ 256 = omega arith in let w : 2 + mapLength input ≤ length input = omega arith in simp (le-ltb _ _ two, le-ltb _ _ k, le-ltb _ _ w, g, ne-eqb _ _ (λ (q : length input ≡ 2 + mapLength input + 8 * cellCount input). l (omega arith)))
+
+-- ---- the cells, one number stored after the other
+
+numbers-long : (input : List ℕ) (from k : ℕ) → length (joinBelow (numberAt input from) k) ≡ k
+unfolding numberAt
+numbers-long input from k = join-ones (λ i. u32At input (from + 4 * i)) k
+
+pub stored : (input : List ℕ) (from k v : ℕ) (start cells : List ℕ) → k < length start → v ≡ u32At input (from + 4 * k) → cells ≡ joinBelow (numberAt input from) k ++ drop k start
+    → set cells k v ≡ joinBelow (numberAt input from) (k + 1) ++ drop (k + 1) start
+unfolding numberAt
+stored input from k v start cells l e c =
+    let f = joinBelow (numberAt input from) k in
+    rw (c, drop-cons start k 0 l, set-at f (getD start k 0) (drop (suc k) start) v k (numbers-long input from k), e, join-step, add-one, append-snoc)
+
+-- ---- the table
+
+pub line-is : (image cells : List ℕ) (i : ℕ) (x : Entry) (survey : Survey) → x ≡ entryOf image i → survey ≡ surveyAt image cells i → lineOf i (x .n) survey ≡ lineAt image cells i
+unfolding lineAt
+line-is image cells i x survey e q = rw (e, q)
+
+pub table-is : (image cells : List ℕ) (p : ℕ) (slot : ActiveSlot) → p ≡ headerOf image .partitions → slot ≡ activeSlot image cells → text "part cells state short\n" ++ joinBelow (lineAt image cells) p ++ hekLine slot ≡ tableOf image cells
+unfolding tableOf
+table-is image cells p slot e q = rw (e, q)
+
+-- ---- what an accepted input tells
+
+past : (b : Bool) (n : ℕ) (rest : Reading) → cond b (Refused n) rest ≡ Drive → (b ≡ false) × (rest ≡ Drive)
+past true n rest e = absurd (let z : _≡_ {A = ℕ} 0 1 = cc in omega arith)
+past false n rest e = (refl, e)
+
+pub record Accepted (input : List ℕ) : Type 0 where
+  pub two : 2 ≤ length input
+  pub most : mapLength input ≤ 256
+  pub whole : 2 + mapLength input ≤ length input
+  pub good : mapGood (imageOf input) ≡ true
+  pub long : length input ≡ 2 + mapLength input + 8 * cellCount input
+
+pub accepted : (input : List ℕ) → readingOf input ≡ Drive → Accepted input
+unfolding readingOf
+accepted input e =
+    let a = past (ltb (length input) 2) 2 _ e in
+    let b = past (ltb 256 (mapLength input)) 1 _ (a .1) in
+    let c = past (ltb (length input) (2 + mapLength input)) 2 _ (b .1) in
+    let d = past (not (mapGood (imageOf input))) 1 _ (c .1) in
+    let f = past (not (eqb (length input) (2 + mapLength input + 8 * cellCount input))) 2 _ (d .1) in
+    record {
+      two = ltb-false _ _ (a .0);
+      most = ltb-false _ _ (b .0);
+      whole = ltb-false _ _ (c .0);
+      good = not-false _ (d .0);
+      long = eqb-true _ _ (not-false _ (f .0));
+    }
+
+-- the same, at what was read of it: the map's length and the header of the lent image
+pub record Taken (input : List ℕ) (len : ℕ) (header : Header) : Type 0 where
+  pub len-most : len ≤ 256
+  pub whole : 2 + len ≤ length input
+  pub image : take (2 + len - 2) (drop 2 input) ≡ imageOf input
+  pub good : mapGood (imageOf input) ≡ true
+  pub count : header .cells ≡ cellCount input
+  pub count-most : header .cells ≤ 2048
+
+pub taken : (input : List ℕ) (len : ℕ) (header : Header) → readingOf input ≡ Drive → len ≡ mapLength input → header ≡ headerOf (take (2 + len - 2) (drop 2 input)) → Taken input len header
+taken input len header r e q =
+    let a = accepted input r in
+    let image = image-is input len e (a .two) in
+    let count : header .cells ≡ cellCount input = ap (λ (h : Header). h .cells) (q ∙ ap headerOf image) in
+    let most = map-header (imageOf input) (a .good) .cells-most in
+    record { len-most = omega arith; whole = omega arith; image = image; good = a .good; count = count; count-most = omega arith }
+
+-- the cells that were read are the input's
+pub cells-are : (input : List ℕ) (len count : ℕ) (start cells : List ℕ) → len ≡ mapLength input → count ≡ cellCount input → cells ≡ joinBelow (numberAt input (2 + len)) count ++ drop count start → take count cells ≡ cellsOf input
+cells-are input len count start cells e n c =
+    let front : take count cells ≡ joinBelow (numberAt input (2 + len)) count = rw c (take-at _ _ count (numbers-long input (2 + len) count)) in
+    front ∙ rw (e, n)
+
+-- and they are as many as the map says
+pub cells-long : (input : List ℕ) → length (cellsOf input) ≡ cellCount input
+cells-long input = numbers-long input _ _
+
+-- ---- the whole output
+
+pub printed-by : (input before after : List ℕ) (r : ℕ) (t : Reading) → readingOf input ≡ t → Put 0 (printed t input) before after r → Printed input before after r
+printed-by input before after r t e p =
+    let q : Put 0 (statusOf input) before after r = rw e p in
+    record { count = omega (arith, q .is-next); bytes = q .bytes ∙ ap (λ (k : ℕ). statusOf input ++ drop k before) (zero-add (length (statusOf input))); fits = omega (arith, q .is-next, q .room, q .same) }

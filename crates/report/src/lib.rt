@@ -1,0 +1,156 @@
+// The status program's answer: the bytes that it reads go in, the bytes that it prints come out in a
+// lent buffer. Reading, judging and every printed byte are decided here; the program only moves
+// bytes. The definitions are in `specs/Status`. It rests on `drive`, `map`, `partition`, `endian`
+// and `text`.
+use drive::ActiveSlot;
+use partition::State;
+use partition::Survey;
+ghost use mathlib.Core.Path.{_≡_};
+ghost use mathlib.Core.List.{_++_};
+ghost use Prim.Native.Nat.{_+_, _≤_};
+ghost use lib.ListN.{length, drop};
+ghost use Rattle.laws.specs.Below.{joinBelow};
+ghost use Rattle.drive.specs.Drive.{Whole};
+ghost use Rattle.report.specs.Status.{imageOf, numberAt, cellsOf, readingOf, stateName, lineOf, hekLine, tableOf, refusedLine, Printed};
+ghost use Rattle.text.specs.Put.{Put};
+
+// What the input is: a whole drive, or refused with its number.
+pub enum Reading {
+    Drive,
+    Refused(u32),
+}
+
+// Writes a state's name.
+fn put_name(out: &mut [u8], at: usize, state: State) -> usize
+    requires { ⌜ at + 10 ≤ length (now out) ⌝ }
+    ensures { λ r. ⌜ Put at (stateName state) (now (out .entry)) (now (out .exit)) r × (r ≤ at + 10) ⌝ }
+{
+    match state {
+        State::Erased => text::put(out, at, b"erased"),
+        State::Torn => text::put(out, at, b"torn"),
+        State::Blank => text::put(out, at, b"blank"),
+        State::Programmed => text::put(out, at, b"programmed"),
+    }
+}
+
+// Writes a partition's line: number, cells, state, short pairs.
+fn put_line(out: &mut [u8], at: usize, i: u32, n: u16, survey: Survey) -> usize
+    requires { ⌜ at + 26 ≤ length (now out) ⌝ }
+    ensures { λ r. ⌜ Put at (lineOf i n survey) (now (out .entry)) (now (out .exit)) r × (r ≤ at + 26) ⌝ }
+{
+    let state = survey.state;
+    let short = survey.short;
+    let a = text::put_decimal(out, at, i as usize);
+    let b = text::put(out, a, b" ");
+    let c = text::put_decimal(out, b, n as usize);
+    let d = text::put(out, c, b" ");
+    let e = put_name(out, d, state);
+    let f = text::put(out, e, b" ");
+    let g = text::put_decimal(out, f, short);
+    text::put(out, g, b"\n")
+}
+
+// Writes the last line: the active slot's partition if the HEK is available, else `none`.
+fn put_hek(out: &mut [u8], at: usize, slot: ActiveSlot) -> usize
+    requires { ⌜ at + 9 ≤ length (now out) ⌝ }
+    ensures { λ r. ⌜ Put at (hekLine slot) (now (out .entry)) (now (out .exit)) r × (r ≤ at + 9) ⌝ }
+{
+    if !drive::is_available(slot) {
+        return text::put(out, at, b"hek none\n");
+    }
+    let partition = drive::slot_number(slot) as usize;
+    let a = text::put(out, at, b"hek ");
+    let b = text::put_decimal(out, a, partition);
+    text::put(out, b, b"\n")
+}
+
+// Writes the line of a refusal.
+fn put_refused(out: &mut [u8], number: u32) -> usize
+    requires { ⌜ 13 ≤ length (now out) ⌝ }
+    ensures { λ r. ⌜ Put 0 (refusedLine number) (now (out .entry)) (now (out .exit)) r ⌝ }
+{
+    let a = text::put(out, 0, b"refused ");
+    let b = text::put_decimal(out, a, number as usize);
+    text::put(out, b, b"\n")
+}
+
+// Judges the input: the refusals in the document's order, or a whole drive.
+fn read_input(input: &[u8]) -> Reading
+    ensures { λ r. ⌜ r ≡ readingOf (now (input .entry)) ⌝ }
+{
+    if input.len() < 2 {
+        return Reading::Refused(2);
+    }
+    let len = endian::u16_at(input, 0) as usize;
+    if 256 < len {
+        return Reading::Refused(1);
+    }
+    let end = 2 + len;
+    if input.len() < end {
+        return Reading::Refused(2);
+    }
+    let image = &input[2..end];
+    if !map::is_good(image) {
+        return Reading::Refused(1);
+    }
+    let header = map::read_header(image);
+    if input.len() == end + 8 * (header.cells as usize) {
+        return Reading::Drive;
+    }
+    Reading::Refused(2)
+}
+
+// Reads `count` numbers that start at `from` into the front of `cells`.
+fn read_cells(input: &[u8], from: usize, count: usize, cells: &mut [u32])
+    requires { ⌜ (from ≤ 258) × (count ≤ 2048) × (count ≤ length (now cells)) ⌝ }
+    ensures { λ _. ⌜ now (cells .exit) ≡ joinBelow (numberAt (now (input .entry)) from) count ++ drop count (now (cells .entry)) ⌝ }
+{
+    let mut k: usize = 0;
+    while k < count {
+        cells[k] = endian::u32_at(input, from + 4 * k);
+        k += 1;
+    }
+}
+
+// Writes the table of a drive: a header, a line for each partition, and the HEK.
+fn put_table(out: &mut [u8], image: &[u8], cells: &[u32]) -> usize
+    requires { ⌜ Whole (now image) (now cells) × (448 ≤ length (now out)) ⌝ }
+    ensures { λ r. ⌜ Put 0 (tableOf (now (image .entry)) (now (cells .entry))) (now (out .entry)) (now (out .exit)) r ⌝ }
+{
+    let header = map::read_header(image);
+    let partitions = header.partitions as u32;
+    let mut at = text::put(out, 0, b"part cells state short\n");
+    let mut i: u32 = 0;
+    while i < partitions {
+        let x = map::read_entry(image, i);
+        let survey = drive::survey_at(image, cells, i);
+        at = put_line(out, at, i, x.n, survey);
+        i += 1;
+    }
+    put_hek(out, at, drive::active_in(image, cells))
+}
+
+// Writes the table of the drive that the input holds.
+fn put_drive(out: &mut [u8], input: &[u8]) -> usize
+    requires { ⌜ (readingOf (now input) ≡ Reading.Drive) × (448 ≤ length (now out)) ⌝ }
+    ensures { λ r. ⌜ Put 0 (tableOf (imageOf (now (input .entry))) (cellsOf (now (input .entry)))) (now (out .entry)) (now (out .exit)) r ⌝ }
+{
+    let end = 2 + endian::u16_at(input, 0) as usize;
+    let image = &input[2..end];
+    let header = map::read_header(image);
+    let count = header.cells as usize;
+    let mut numbers = [0u32; 2048];
+    read_cells(input, end, count, &mut numbers);
+    put_table(out, image, &numbers[..count])
+}
+
+// Everything that the status program prints for its input, in the front of the lent buffer, and how
+// many bytes that is. The rest of the buffer keeps its bytes.
+pub fn report_status(input: &[u8], out: &mut [u8; 512]) -> usize
+    ensures { λ r. ⌜ Printed (now (input .entry)) (now (out .entry)) (now (out .exit)) r ⌝ }
+{
+    match read_input(input) {
+        Reading::Refused(number) => put_refused(out, number),
+        Reading::Drive => put_drive(out, input),
+    }
+}

@@ -1,0 +1,51 @@
+// Text in a lent buffer, piece after piece: bytes as they are, and numbers in decimal. Bytes outside
+// the piece keep their values. The definitions are in `specs/Text` and `specs/Put`. It rests on the
+// kit's `bytes`.
+ghost use Prim.Native.Nat.{_+_, _≤_};
+ghost use mathlib.Core.Path.{_≡_};
+ghost use lib.ListN.{length};
+ghost use Rattle.text.specs.Text.{digit, zeros, decimal};
+ghost use Rattle.text.specs.Put.{Put};
+
+// Writes `t` into the buffer from `at` on, and answers the place past it.
+pub fn put(out: &mut [u8], at: usize, t: &[u8]) -> usize
+    requires { ⌜ at + length (now t) ≤ length (now out) ⌝ }
+    ensures { λ r. ⌜ Put at (now (t .entry)) (now (out .entry)) (now (out .exit)) r ⌝ }
+{
+    at + bytes::copy(t, &mut out[at..])
+}
+
+// The last decimal digit of `v`, as text.
+fn digit_of(v: usize) -> u8
+    ensures { λ r. ⌜ r ≡ digit v ⌝ }
+{
+    (v % 10) as u8 + 48
+}
+
+// How many of the four decimal digits of `v` are leading zeros.
+fn leading_zeros(v: usize) -> usize
+    ensures { λ r. ⌜ (r ≡ zeros v) × (r ≤ 3) ⌝ }
+{
+    if v < 10 {
+        return 3;
+    }
+    if v < 100 {
+        return 2;
+    }
+    if v < 1000 { 1 } else { 0 }
+}
+
+// Writes a number below 10,000 in decimal.
+pub fn put_decimal(out: &mut [u8], at: usize, v: usize) -> usize
+    requires { ⌜ at + 4 ≤ length (now out) ⌝ }
+    ensures { λ r. ⌜ Put at (decimal v) (now (out .entry)) (now (out .exit)) r × (r ≤ at + 4) ⌝ }
+{
+    let digits = [
+        digit_of(v / 1000),
+        digit_of(v / 100),
+        digit_of(v / 10),
+        digit_of(v),
+    ];
+    let zeros = leading_zeros(v);
+    put(out, at, &digits[zeros..])
+}

@@ -1,0 +1,123 @@
+//! Generated maps: good ones, and good ones with one thing damaged.
+
+use crate::random::Random;
+use model::image::{entry, Image, SLOT_FLAGS};
+use model::map::{Entry, HARDWARE, LIFE_CYCLE, SECRET, SOFTWARE, ZEROIZABLE};
+
+const MOST_CELLS: usize = 2048;
+
+/// The kinds and flags a good entry may have. Slots stand there more than once,
+/// so that drives with several slots are common.
+const GOOD_KINDS: [(u8, u8); 11] = [
+    (HARDWARE, SLOT_FLAGS),
+    (HARDWARE, SLOT_FLAGS),
+    (HARDWARE, SLOT_FLAGS),
+    (HARDWARE, ZEROIZABLE | SECRET),
+    (HARDWARE, SECRET),
+    (HARDWARE, ZEROIZABLE),
+    (HARDWARE, 0),
+    (SOFTWARE, ZEROIZABLE),
+    (SOFTWARE, ZEROIZABLE),
+    (SOFTWARE, 0),
+    (LIFE_CYCLE, 0),
+];
+
+/// Values at which a comparison, a parity or a 16-bit sum may go wrong.
+const EDGES: [u16; 16] = [0, 1, 2, 3, 4, 5, 6, 7, 32, 33, 64, 65, 2048, 2049, 0xFFFE, 0xFFFF];
+
+/// A map that keeps every rule.
+pub fn good(random: &mut Random) -> Image {
+    let count = random.between(1, 16);
+    let share = MOST_CELLS / count / 2 * 2;
+    let mut entries = Vec::new();
+    let mut free = 0;
+    for _ in 0..count {
+        let made = good_entry(random, free, share);
+        free = made.range().end;
+        entries.push(made);
+    }
+    // No entry took more than its share, so the end is at most 2,048.
+    let behind = if random.one_in(2) { 0 } else { random.below(6) };
+    Image {
+        cells: (free + behind).min(MOST_CELLS) as u16,
+        bound: good_bound(random),
+        entries_at: good_offset(random),
+        entries,
+    }
+}
+
+/// The largest map: 256 bytes, 16 partitions, 2,048 cells and no gap.
+pub fn largest(random: &mut Random) -> Image {
+    let n = MOST_CELLS / 16;
+    let made = |number: usize, (kind, flags)| entry((number * n) as u16, n as u16, kind, flags);
+    let entries = (0..16).map(|number| made(number, random.pick(&GOOD_KINDS))).collect();
+    let bound = good_bound(random);
+    Image { cells: MOST_CELLS as u16, bound, entries_at: 128, entries }
+}
+
+/// The bytes of a good map with something damaged. The damage may turn out to
+/// break no rule: the model says.
+pub fn damaged(random: &mut Random) -> Vec<u8> {
+    let mut image = good(random);
+    if random.one_in(2) {
+        damage_field(random, &mut image);
+        return image.bytes();
+    }
+    let mut bytes = image.bytes();
+    damage_bytes(random, &mut bytes);
+    bytes
+}
+
+/// An entry of at most `share` cells, a gap before it included.
+fn good_entry(random: &mut Random, free: usize, share: usize) -> Entry {
+    let (kind, flags) = random.pick(&GOOD_KINDS);
+    let least = if flags & ZEROIZABLE != 0 { 6 } else { 4 };
+    let n = match random.below(8) {
+        0..=2 => least,
+        3..=6 => least + 2 * random.below(8),
+        _ => least + 2 * random.below((share - least) / 2 + 1),
+    };
+    let room = (share - n) / 2;
+    let gap = if random.one_in(3) { 2 * random.below(room.min(3) + 1) } else { 0 };
+    entry((free + gap) as u16, n as u16, kind, flags)
+}
+
+fn good_bound(random: &mut Random) -> u16 {
+    let any = random.between(33, 64) as u16;
+    random.pick(&[33, 60, 60, 64, any])
+}
+
+fn good_offset(random: &mut Random) -> u16 {
+    let any = random.between(8, 128) as u16;
+    random.pick(&[8, 8, 9, 128, any])
+}
+
+fn damage_field(random: &mut Random, image: &mut Image) {
+    let edge = random.pick(&EDGES);
+    let at = random.below(image.entries.len());
+    let hurt = &mut image.entries[at];
+    match random.below(12) {
+        0 => image.cells = edge,
+        1 => image.bound = edge,
+        2 => image.entries_at = random.pick(&[0, 6, 7, 8, 127, 128, 129, 130]),
+        3 => hurt.first = edge,
+        4 => hurt.n = edge,
+        5 => hurt.first = hurt.first.wrapping_add(random.pick(&[1, 2, 0xFFFE, 0xFFFF])),
+        6 => hurt.n = hurt.n.wrapping_add(random.pick(&[1, 2, 0xFFFE, 0xFFFF])),
+        7 => hurt.kind = random.below(4) as u8,
+        8 => hurt.flags = random.below(16) as u8,
+        9 => hurt.zeros[random.below(2)] = random.byte(),
+        10 => image.cells = image.cells.wrapping_sub(random.between(1, 8) as u16),
+        _ => image.entries.rotate_left(at),
+    }
+}
+
+fn damage_bytes(random: &mut Random, bytes: &mut Vec<u8>) {
+    let at = random.below(bytes.len());
+    match random.below(6) {
+        0..=2 => bytes[at] ^= 1 << random.below(8),
+        3 => bytes[at] = random.byte(),
+        4 => bytes.push(random.pick(&[0, 1, 0xFF])),
+        _ => bytes.truncate(at),
+    }
+}

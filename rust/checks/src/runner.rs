@@ -1,0 +1,75 @@
+//! Runs of the built programs.
+
+use std::io::{ErrorKind, Read, Write};
+use std::path::{Path, PathBuf};
+use std::process::{Child, ChildStdin, Command, Stdio};
+use std::sync::mpsc;
+use std::thread;
+use std::time::Duration;
+
+/// Far more than any run takes: a program still running then does not end.
+const LIMIT: Duration = Duration::from_secs(20);
+
+/// Runs the status program on this standard input and gives what it printed.
+///
+/// Fails the test if the program is missing, does not end, ends with a status
+/// other than 0 or prints to standard error.
+pub fn status(input: &[u8]) -> Vec<u8> {
+    run(&program("status"), input)
+}
+
+/// The path of a built program, seen from the repository's root.
+fn program(name: &str) -> PathBuf {
+    let path = Path::new(env!("CARGO_MANIFEST_DIR")).join("../../target/bin").join(name);
+    assert!(
+        path.is_file(),
+        "the program target/bin/{name} is missing: build it before running these tests (looked for {})",
+        path.display()
+    );
+    path
+}
+
+/// Input and output go through threads of their own, so that neither a full
+/// pipe nor a program that stops reading early can block the run.
+fn run(path: &Path, input: &[u8]) -> Vec<u8> {
+    let mut child = start(path);
+    let stdin = child.stdin.take().expect("standard input is a pipe");
+    let (sender, receiver) = mpsc::channel();
+    let mut streams = (child.stdout.take(), child.stderr.take());
+    let printed = thread::scope(|scope| {
+        scope.spawn(move || feed(stdin, input));
+        scope.spawn(move || sender.send((read_all(&mut streams.0), read_all(&mut streams.1))));
+        let printed = receiver.recv_timeout(LIMIT);
+        if printed.is_err() {
+            child.kill().expect("the program can be stopped");
+        }
+        printed
+    });
+    let exit = child.wait().expect("the program's exit status can be read");
+    let (output, errors) =
+        printed.unwrap_or_else(|_| panic!("no end within {LIMIT:?} on {input:02X?}"));
+    assert!(exit.success(), "{exit} on {input:02X?}");
+    assert!(errors.is_empty(), "printed to standard error: {}", String::from_utf8_lossy(&errors));
+    output
+}
+
+fn start(path: &Path) -> Child {
+    let mut command = Command::new(path);
+    command.stdin(Stdio::piped()).stdout(Stdio::piped()).stderr(Stdio::piped());
+    command.spawn().unwrap_or_else(|error| panic!("{} does not start: {error}", path.display()))
+}
+
+/// Writes the whole input, then closes the pipe. A program that refuses early
+/// need not read the rest, so a broken pipe is no fault.
+fn feed(mut stdin: ChildStdin, input: &[u8]) {
+    if let Err(error) = stdin.write_all(input) {
+        assert_eq!(error.kind(), ErrorKind::BrokenPipe, "the input cannot be written: {error}");
+    }
+}
+
+fn read_all(stream: &mut Option<impl Read>) -> Vec<u8> {
+    let mut bytes = Vec::new();
+    let stream = stream.as_mut().expect("the stream is a pipe");
+    stream.read_to_end(&mut bytes).expect("the stream can be read");
+    bytes
+}

@@ -1,0 +1,90 @@
+//! Document 01, "Burning and counting": what the fuses of one partition say.
+
+use crate::fuse;
+use crate::map::{Entry, Map};
+use std::fmt;
+
+/// "The map of the fuses": a partition with its cells, "handed on as a part of
+/// the array that starts where the partition starts".
+#[derive(Clone, Copy, Debug)]
+pub struct Partition<'a> {
+    entry: Entry,
+    bound: u64,
+    cells: &'a [u32],
+}
+
+/// "Burning and counting": "Its state is one of four".
+#[derive(Clone, Copy, Debug, PartialEq, Eq)]
+pub enum State {
+    /// "counted as zeroized, no pair short"
+    Erased,
+    /// "counted as zeroized, some pair short"
+    Torn,
+    /// "not counted, every data cell zero"
+    Blank,
+    /// "not counted, some data fuse set"
+    Programmed,
+}
+
+impl<'a> Partition<'a> {
+    /// "The map of the fuses": the partition of that number in the whole array.
+    pub fn of(map: &Map, number: usize, array: &'a [u32]) -> Partition<'a> {
+        let entry = map.entries()[number];
+        let cells = &array[entry.range()];
+        Partition { entry, bound: map.bound(), cells }
+    }
+
+    /// "Burning and counting": the number of short pairs, those of the digest
+    /// and of the indicator included. In kind 1 too, two data cells are one pair.
+    pub fn short_pairs(&self) -> usize {
+        self.pairs().filter(|pair| fuse::short(*pair, self.bound)).count()
+    }
+
+    /// "Erasing a partition": "the first cell of the lowest one", in the whole
+    /// array; none if no pair is short.
+    pub fn lowest_short_pair(&self) -> Option<usize> {
+        let pair = self.pairs().position(|pair| fuse::short(pair, self.bound))?;
+        Some(self.entry.range().start + 2 * pair)
+    }
+
+    /// "Burning and counting": "when it is zeroizable and its indicator is not
+    /// short". The indicator is the last pair.
+    pub fn counted_as_zeroized(&self) -> bool {
+        let last = self.pairs().last();
+        self.entry.zeroizable() && last.is_some_and(|pair| !fuse::short(pair, self.bound))
+    }
+
+    /// "Burning and counting": the state.
+    pub fn state(&self) -> State {
+        let counted = self.counted_as_zeroized();
+        if counted && self.short_pairs() == 0 {
+            State::Erased
+        } else if counted {
+            State::Torn
+        } else if self.data().iter().all(|cell| *cell == 0) {
+            State::Blank
+        } else {
+            State::Programmed
+        }
+    }
+
+    fn data(&self) -> &'a [u32] {
+        &self.cells[..self.entry.data_cells()]
+    }
+
+    fn pairs(&self) -> impl Iterator<Item = [u32; 2]> + 'a {
+        self.cells.chunks_exact(2).map(|pair| [pair[0], pair[1]])
+    }
+}
+
+/// "The small drive": the names as the status program prints them.
+impl fmt::Display for State {
+    fn fmt(&self, f: &mut fmt::Formatter) -> fmt::Result {
+        f.write_str(match self {
+            State::Erased => "erased",
+            State::Torn => "torn",
+            State::Blank => "blank",
+            State::Programmed => "programmed",
+        })
+    }
+}

@@ -1,0 +1,66 @@
+//! Document 01, the end of "The small drive": the status program.
+
+use crate::map::Map;
+use crate::partition::Partition;
+use crate::refusal::Refusal;
+use crate::slot;
+
+/// "The small drive": "the length is over 256".
+const LONGEST_MAP: usize = 256;
+
+/// "The small drive": what the status program prints for this standard input.
+pub fn output(input: &[u8]) -> Vec<u8> {
+    let text = match read(input) {
+        Ok((map, cells)) => table(&map, &cells),
+        Err(refusal) => format!("refused {}\n", refusal.number()),
+    };
+    text.into_bytes()
+}
+
+/// "The small drive": "a u16 map length, the map, C cells, C marks, each a
+/// little-endian u32". The refusals stand in the order of the document. The
+/// marks must be there, but nothing that is printed depends on them.
+fn read(input: &[u8]) -> Result<(Map, Vec<u32>), Refusal> {
+    let [low, high, rest @ ..] = input else {
+        return Err(Refusal::WrongLength);
+    };
+    let length = usize::from(u16::from_le_bytes([*low, *high]));
+    if length > LONGEST_MAP {
+        return Err(Refusal::BadMap);
+    }
+    if rest.len() < length {
+        return Err(Refusal::WrongLength);
+    }
+    let (image, rest) = rest.split_at(length);
+    let map = Map::read(image).ok_or(Refusal::BadMap)?;
+    if rest.len() != 4 * map.cells() + 4 * map.cells() {
+        return Err(Refusal::WrongLength);
+    }
+    let cells = numbers(&rest[..4 * map.cells()]);
+    Ok((map, cells))
+}
+
+/// "The small drive": "a header, one line per partition (number, cells, state,
+/// short pairs), then `hek` and the active slot's partition if the HEK is
+/// available, else `none`".
+fn table(map: &Map, cells: &[u32]) -> String {
+    let mut text = String::from("part cells state short\n");
+    for (number, entry) in map.entries().iter().enumerate() {
+        let partition = Partition::of(map, number, cells);
+        let (state, short) = (partition.state(), partition.short_pairs());
+        text += &format!("{number} {} {state} {short}\n", entry.n);
+    }
+    text + &hek_line(map, cells)
+}
+
+fn hek_line(map: &Map, cells: &[u32]) -> String {
+    match slot::active_slot(map, cells) {
+        Some(number) if slot::hek_available(map, cells) => format!("hek {number}\n"),
+        _ => String::from("hek none\n"),
+    }
+}
+
+fn numbers(bytes: &[u8]) -> Vec<u32> {
+    let number = |b: &[u8]| u32::from_le_bytes([b[0], b[1], b[2], b[3]]);
+    bytes.chunks_exact(4).map(number).collect()
+}
