@@ -1,12 +1,11 @@
 -- A whole drive, map image, cells and marks: document 01, "Refusal numbers" 1, 2 and 7, and "Active slot and key cache". Assumes nothing.
-use Prim.Native.Nat.{ℕ, _+_, _-_}
+use Prim.Native.Nat.{ℕ, _-_}
 use mathlib.Core.Path.{_≡_}
 use mathlib.Core.Bool.{Bool, true, false, cond, _&&_, not}
 use mathlib.Core.List.{List}
 use lib.ListN.{length, take, drop}
 use lib.Dec.{eqb, ltb}
 use Rattle.laws.specs.Below.{firstBelow}
-use Rattle.map.specs.declared.Header.{Header}
 use Rattle.map.specs.Map.{headerOf, entryOf, endOf, zeroizable, slot, mapGood}
 use Rattle.partition.specs.declared.State.{State}
 use Rattle.partition.specs.declared.State.the-variants.{Erased, Torn, Blank, Programmed}

@@ -1,2 +1,3 @@
 pub mod Drive
 pub mod Laws
+pub mod Vectors

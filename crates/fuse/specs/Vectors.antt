@@ -1,7 +1,7 @@
 -- The definitions at numbers, by computation: the customer's 59 and 60 of 64, and burns with stuck fuses. Assumes nothing.
 use mathlib.Core.Path.{_≡_, refl}
 use mathlib.Core.Bool.{true, false}
-use mathlib.Core.List.{List, [], _∷_}
+use mathlib.Core.List.{[], _∷_}
 use lib.Count.{onesIn}
 use Rattle.fuse.specs.Fuse.{burn, pairOf, onesOf, short, burnCell, burnWord}
 

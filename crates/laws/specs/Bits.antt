@@ -1,7 +1,7 @@
 -- Numbers by their digits, over any width: or, and, xor and the complement at a digit, and the order "each digit set in x is set
 -- in y". A law of these operations is one of min and max at a digit, which omega proves. Assumes nothing.
-use mathlib.Core.Path.{_≡_, refl, sym, ap, _∙_, subst}
 use Prim.Native.Nat.{ℕ, zero, suc, _+_, _-_, _/_, _%_, _^_, _≤_, _<_, min, max}
+use mathlib.Core.Path.{_≡_, sym, ap, _∙_, subst}
 use native.Mathlib.Omega.{arith}
 use native.Mathlib.Nat.{mod-eq-of-lt}
 use native.Mathlib.Numerals.{one-add}

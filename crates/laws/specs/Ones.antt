@@ -1,7 +1,7 @@
 -- The number of ones among the k low digits, `onesIn k` of the language's library: it computes at 64-bit numerals, and `counted`
 -- says that it is the language's own count. Assumes nothing.
-use mathlib.Core.Path.{_≡_, sym, ap, ap₂, _∙_}
 use Prim.Native.Nat.{ℕ, zero, suc, _+_, _*_, _/_, _%_, _^_, _≤_, _<_}
+use mathlib.Core.Path.{_≡_, sym, ap, ap₂, _∙_}
 use native.Mathlib.Omega.{arith}
 use native.Mathlib.Nat.{pow-suc}
 use lib.Arith.{lt-one}

@@ -1,22 +1,21 @@
 -- The map's laws: first what the proofs of the check cite, then what a good map gives its callers, as records of facts on numbers.
 -- Assumes nothing.
 use Prim.Native.Nat.{ℕ, zero, suc, _+_, _-_, _*_, _%_, _≤_, _<_}
-use mathlib.Core.Path.{_≡_, sym, ap, _∙_}
+use mathlib.Core.Path.{_≡_}
 use mathlib.Core.Logic.{⊎-elim}
-use mathlib.Core.Bool.{Bool, true, false, cond, _&&_, _||_, or-true, and-false}
+use mathlib.Core.Bool.{Bool, true, false, cond, or-true, and-false}
 use mathlib.Core.List.{List}
 use native.Mathlib.Omega.{arith}
 use native.Mathlib.Nat.{not-suc-le-zero, eq-or-lt-of-le, le-of-suc-le-suc}
-use borrow.Author.Tests.{leb-true, eqb-true, eqb-false, le-ltb, ne-eqb}
 use lib.ListN.{length}
-use lib.Dec.{eqb, leb, ltb}
+use lib.Dec.{ltb}
+use borrow.Author.Tests.{leb-true, eqb-true, eqb-false, le-ltb, ne-eqb}
 use Rattle.laws.specs.Tests.{decided, and, implies, not-both}
 use Rattle.laws.specs.Below.{allBelow, all-at}
 use Rattle.endian.specs.Endian.{byteAt, u16At}
 use Rattle.map.specs.declared.Header.{Header}
 use Rattle.map.specs.declared.Entry.{Entry}
-use Rattle.map.specs.Map.{headerOf, entryPlace, entryOf, endOf, hardware, lifeCycle, zeroizable, secret, slot, headerGood, fillerGood, entryGood, endBefore, placeGood, mapGood}
-use Rattle.map.specs.Word.{tailOf}
+use Rattle.map.specs.Map.{headerOf, entryPlace, entryOf, endOf, hardware, lifeCycle, zeroizable, secret, slot, headerGood, fillerGood, entryGood, endBefore, placeGood, mapGood, tailOf}
 
 -- a byte of the filler is good where it is zero, and only there
 pub filler-zero : (s : List ℕ) (k : ℕ) → byteAt s k ≡ 0 → fillerGood s k ≡ true

@@ -1,5 +1,3 @@
 pub mod Map
-pub mod Word
 pub mod Laws
-pub mod WordLaws
 pub mod Vectors

@@ -1,25 +1,21 @@
 -- The rules at images, by computation: each broken image differs from a good one in the rule that it names; the edges on the good
--- side are good. Also the words of a small array. Assumes nothing.
+-- side are good. Assumes nothing.
 use Prim.Native.Nat.{ℕ, zero, suc, _+_, _/_, _%_}
 use mathlib.Core.Path.{_≡_, refl}
-use mathlib.Core.Bool.{Bool, true, false}
+use mathlib.Core.Bool.{true, false}
 use mathlib.Core.List.{List, [], _∷_, _++_, map}
 use lib.ListN.{replicate}
-use Rattle.laws.specs.Below.{allBelow, firstFrom}
+use Rattle.laws.specs.Below.{allBelow}
 use Rattle.endian.specs.Endian.{u16At}
 use Rattle.map.specs.Map.{headerGood, fillerGood, entryGood, placeGood, mapGood}
-use Rattle.map.specs.Word.{wordIn, holdsAt, wordAt}
-use Rattle.map.specs.declared.Lookup.{Lookup}
-use Rattle.map.specs.declared.Lookup.the-variants.{Word, Nothing}
-use Rattle.map.specs.declared.Role.the-variants.{Data, Digest, Indicator}
 
-abbrev u16 : ℕ → List ℕ
+abbrev pub u16 : ℕ → List ℕ
 u16 v = v % 256 ∷ v / 256 ∷ []
 
-abbrev entry : (first n kind flags : ℕ) → List ℕ
+abbrev pub entry : (first n kind flags : ℕ) → List ℕ
 entry first n kind flags = u16 first ++ u16 n ++ (kind ∷ flags ∷ 0 ∷ 0 ∷ [])
 
-abbrev image : (p c b e : ℕ) (filler entries : List ℕ) → List ℕ
+abbrev pub image : (p c b e : ℕ) (filler entries : List ℕ) → List ℕ
 image p c b e filler entries = u16 p ++ u16 c ++ u16 b ++ u16 e ++ filler ++ entries
 
 -- entries of four cells, one after the other
@@ -28,10 +24,10 @@ row zero first = []
 row (suc k) first = entry first 4 0 0 ++ row k (first + 4)
 
 -- the small drive's two entries, and images with them
-abbrev two : List ℕ
+abbrev pub two : List ℕ
 two = entry 0 6 0 7 ++ entry 6 6 1 0
 
-abbrev one : (entry : List ℕ) → List ℕ
+abbrev pub one : (entry : List ℕ) → List ℕ
 one x = image 1 12 60 8 [] x
 
 -- each breaks the one rule that stands beside it
@@ -82,17 +78,3 @@ cut = [] ∷ (2 ∷ []) ∷ (2 ∷ 0 ∷ 12 ∷ 0 ∷ 60 ∷ 0 ∷ 8 ∷ []) ∷
 rules : (map mapGood broken ≡ replicate 27 false) × (map mapGood edges ≡ replicate 12 true) × (map mapGood cut ≡ replicate 4 false)
 unfolding broken edges cut mapGood headerGood fillerGood entryGood placeGood allBelow u16At
 rules = (refl, refl, refl)
-
--- a slot of pairs, a gap, and a zeroizable software partition: the word at each of 16 cells
-words : List Lookup
-words = map (wordAt (image 2 16 60 8 [] (entry 0 6 0 7 ++ entry 8 8 1 1))) (0 ∷ 1 ∷ 2 ∷ 3 ∷ 4 ∷ 5 ∷ 6 ∷ 7 ∷ 8 ∷ 9 ∷ 10 ∷ 11 ∷ 12 ∷ 13 ∷ 14 ∷ 15 ∷ 16 ∷ [])
-
-word-table :
-    words
-    ≡ Word 0 Data true ∷ Nothing ∷ Word 0 Digest true ∷ Nothing ∷ Word 0 Indicator true ∷ Nothing
-    ∷ Nothing ∷ Nothing
-    ∷ Word 1 Data false ∷ Word 1 Data false ∷ Word 1 Data false ∷ Word 1 Data false ∷ Word 1 Digest true ∷ Nothing ∷ Word 1 Indicator true ∷ Nothing
-    ∷ Nothing
-    ∷ []
-unfolding words wordAt wordIn holdsAt firstFrom u16At
-word-table = refl

@@ -1,14 +1,13 @@
 // The map of the fuses: an image of bytes, judged by every rule of the document and read. Each
 // function answers for any bytes of any length; only a good map's fields mean anything. The rules
-// are in `specs/Map`, the words in `specs/Word`, what a good map gives its callers in `specs/Laws`
-// and `specs/WordLaws`. It rests on `endian` and `laws`.
+// are in `specs/Map`, what a good map gives its callers in `specs/Laws`. It rests on `endian` and
+// `laws`.
 ghost use mathlib.Core.Path.{_≡_};
 ghost use mathlib.Core.Bool.{true};
 ghost use Prim.Native.Nat.{_+_, _*_, _<_, _≤_};
 ghost use lib.ListN.{length};
 ghost use Rattle.laws.specs.Below.{allBelow};
 ghost use Rattle.map.specs.Map.{headerOf, entryOf, endOf, zeroizable, secret, slot, headerGood, fillerGood, entryGood, endBefore, placeGood, mapGood};
-ghost use Rattle.map.specs.Word.{holds, partitionOf, wordIn, wordAt};
 
 // The four numbers at the start of an image.
 pub struct Header {
@@ -28,8 +27,6 @@ pub struct Entry {
 
 // The kinds that a rule names.
 const HARDWARE: u8 = 0;
-
-const SOFTWARE: u8 = 1;
 
 const LIFE_CYCLE: u8 = 2;
 
@@ -195,100 +192,4 @@ pub fn is_good(image: &[u8]) -> bool
         return false;
     }
     entries_good(image, h.partitions)
-}
-
-// What a word holds.
-pub enum Role {
-    Data,
-    Digest,
-    Indicator,
-}
-
-// The word that starts at a cell: its partition, what it holds, and whether it is a pair (`wide`)
-// or one cell; or none.
-pub enum Lookup {
-    Word {
-        partition: u32,
-        role: Role,
-        wide: bool,
-    },
-    Nothing,
-}
-
-// Whether a cell lies in a partition.
-fn holds_cell(x: Entry, cell: u32) -> bool
-    ensures { λ r. ⌜ r ≡ holds x cell ⌝ }
-{
-    let end = end_of(x);
-    ((x.first as u32) <= cell) & ((cell as usize) < end)
-}
-
-// The partition that holds a cell, the number of partitions where none does.
-fn partition_of(image: &[u8], cell: u32) -> u32
-    ensures { λ r. ⌜ r ≡ partitionOf (now (image .entry)) cell ⌝ }
-{
-    let h = read_header(image);
-    let partitions = h.partitions as u32;
-    let mut i: u32 = 0;
-    while i < partitions {
-        let x = read_entry(image, i);
-        if holds_cell(x, cell) {
-            return i;
-        }
-        i += 1;
-    }
-    partitions
-}
-
-// The word that starts at a cell of partition `i`.
-fn word_in(x: Entry, i: u32, cell: u32) -> Lookup
-    requires { ⌜ cell < endOf x ⌝ }
-    ensures { λ r. ⌜ r ≡ wordIn x i cell ⌝ }
-{
-    let left = end_of(x) - (cell as usize);
-    let tail = 2 + 2 * ((x.flags % 2) as usize);
-    if tail < left {
-        if x.kind == SOFTWARE {
-            return Lookup::Word {
-                partition: i,
-                role: Role::Data,
-                wide: false,
-            };
-        }
-        if cell % 2 == 0 {
-            return Lookup::Word {
-                partition: i,
-                role: Role::Data,
-                wide: true,
-            };
-        }
-        return Lookup::Nothing;
-    }
-    if left == tail {
-        return Lookup::Word {
-            partition: i,
-            role: Role::Digest,
-            wide: true,
-        };
-    }
-    if left == 2 {
-        return Lookup::Word {
-            partition: i,
-            role: Role::Indicator,
-            wide: true,
-        };
-    }
-    Lookup::Nothing
-}
-
-// The word that starts at a cell of the whole array.
-pub fn word_at(image: &[u8], cell: u32) -> Lookup
-    ensures { λ r. ⌜ r ≡ wordAt (now (image .entry)) cell ⌝ }
-{
-    let h = read_header(image);
-    let i = partition_of(image, cell);
-    if i < (h.partitions as u32) {
-        return word_in(read_entry(image, i), i, cell);
-    }
-    Lookup::Nothing
 }

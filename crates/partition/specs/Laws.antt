@@ -1,15 +1,13 @@
 -- The laws of a partition's pairs and states: first what the proofs cite, then what callers use in place of the definitions' text.
 -- Assumes nothing.
-use Prim.Native.Nat.{ℕ, _+_, _-_, _*_, _/_, _≤_, _<_}
-use mathlib.Core.Path.{_≡_, refl, sym, ap, _∙_}
-use mathlib.Core.Bool.{Bool, true, false, cond}
+use Prim.Native.Nat.{ℕ, _-_, _*_, _<_}
+use mathlib.Core.Path.{_≡_}
+use mathlib.Core.Bool.{Bool, true, false}
 use mathlib.Core.List.{List}
 use native.Mathlib.Omega.{arith}
-use lib.ListN.{length, getD}
-use lib.Dec.{ltb}
+use lib.ListN.{getD}
 use borrow.Author.Tests.{eq-eqb, ne-eqb, lt-ltb, le-ltb}
-use Rattle.partition.specs.Partition.{pairs, shortAt, lowestPair, lowestShort, shortPairs, counted, noData, stateOf, zeroCell}
-use Rattle.partition.specs.declared.Lowest.{Lowest}
+use Rattle.partition.specs.Partition.{pairs, lowestPair, lowestShort, shortPairs, counted, noData, stateOf, zeroCell}
 use Rattle.partition.specs.declared.Lowest.the-variants.{Cell, Nothing}
 use Rattle.partition.specs.declared.State.the-variants.{Erased, Torn, Blank, Programmed}
 

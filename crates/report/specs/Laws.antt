@@ -1,29 +1,29 @@
 -- What the writers of the printed lines cite: a number's digits are put as its decimal, and each piece has a most length. Assumes nothing.
-use Prim.Native.Nat.{ℕ, suc, _+_, _-_, _*_, _/_, _≤_, _<_}
-use mathlib.Core.Path.{_≡_, refl, sym, ap, _∙_}
+use Prim.Native.Nat.{ℕ, suc, _+_, _-_, _*_, _≤_, _<_}
+use mathlib.Core.Path.{_≡_, refl, ap, _∙_}
 use mathlib.Core.Bool.{Bool, true, false, cond, not}
-use mathlib.Core.List.{List, [], _∷_, _++_}
+use mathlib.Core.List.{List, _++_}
 use native.Mathlib.Omega.{arith}
-use lib.ListN.{length, take, drop, getD, set, length-append, length-drop}
-use lib.Seq.{take-all, take-at, drop-cons, set-at, append-snoc}
 use native.Mathlib.Numerals.{add-one}
 use native.Mathlib.Nat.{zero-add}
+use lib.ListN.{length, take, drop, getD, set}
+use lib.Seq.{take-at, drop-cons, set-at, append-snoc}
+use lib.Dec.{eqb, ltb}
+use borrow.Author.Tests.{lt-ltb, le-ltb, eq-eqb, ne-eqb, ltb-false, eqb-true, not-false}
 use Rattle.laws.specs.Below.{joinBelow, join-step, join-ones}
 use Rattle.endian.specs.Endian.{u32At}
 use Rattle.map.specs.declared.Header.{Header}
 use Rattle.map.specs.declared.Entry.{Entry}
 use Rattle.map.specs.Laws.{map-header}
 use Rattle.partition.specs.declared.Survey.{Survey}
-use borrow.Author.Tests.{lt-ltb, le-ltb, eq-eqb, ne-eqb, ltb-false, eqb-true, not-false}
-use lib.Dec.{eqb, ltb}
 use Rattle.drive.specs.declared.ActiveSlot.{ActiveSlot}
 use Rattle.drive.specs.Drive.{surveyAt, activeSlot, slotNumber, available}
 use Rattle.map.specs.Map.{headerOf, entryOf, mapGood}
+use Rattle.text.specs.Text.{text, decimal}
+use Rattle.text.specs.Put.{Put}
 use Rattle.report.specs.declared.Reading.{Reading}
 use Rattle.report.specs.declared.Reading.the-variants.{Drive, Refused}
 use Rattle.report.specs.Status.{mapLength, imageOf, cellCount, numberAt, cellsOf, readingOf, lineOf, hekLine, lineAt, tableOf, printed, statusOf, Printed}
-use Rattle.text.specs.Text.{text, decimal}
-use Rattle.text.specs.Put.{Put}
 
 -- ---- the last line
 

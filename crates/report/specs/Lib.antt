@@ -1,2 +1,4 @@
 pub mod Status
 pub mod Laws
+pub mod Longer
+pub mod Vectors

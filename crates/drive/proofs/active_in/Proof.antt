@@ -1,19 +1,15 @@
-use Rattle.drive.specs.Laws.{active-at, active-none, open-is}
+-- `drive::active_in` meets its contract: the loop's invariant: the search from `i` on answers for the whole. Assumes nothing.
 use Prim.Native.Nat.{_≤_, _-_}
 use mathlib.Core.Path.{_≡_, sym, ap, _∙_}
 use native.Mathlib.Omega.{arith}
+use borrow.Author.Needs.{needs}
 use Rattle.laws.specs.Below.{firstBelow, firstFrom, first-start, first-here, first-next, first-end}
 use Rattle.map.specs.declared.Header.{Header}
 use Rattle.map.specs.Map.{headerOf}
+use Rattle.drive.specs.Laws.{active-at, active-none, open-is}
 use Rattle.drive.specs.Drive.{openSlot}
-use borrow.Author.Needs.{needs}
 use Rattle.drive.proofs.active_in.Statement.{statement}
 use Rattle.drive.proofs.active_in.Tie as tie
-use Rattle.drive.proofs.active_in.Reads as reads
-use Rattle.drive.proofs.active_in.Lts as lts
-use Rattle.drive.proofs.is_present.Reads as is-present-reads
-use Rattle.drive.proofs.slot_at.Reads as slot-at-reads
-use Rattle.map.proofs.read_header.Reads as read-header-reads
 
 abbrev Inv-loop : tie.InvT-loop
 Inv-loop image cells partitions i₀ i = (i ≤ partitions) × (firstBelow (openSlot image cells) (headerOf image .partitions) ≡ firstFrom (openSlot image cells) i (partitions - i))
@@ -21,53 +17,43 @@ Inv-loop image cells partitions i₀ i = (i ≤ partitions) × (firstBelow (open
 abbrev μ-loop : tie.MeasureT-loop
 μ-loop image cells partitions i₀ i = partitions - i
 
--- src/lib.rt:128:9
 read-header-requires : tie.Need-read-header-requires Inv-loop μ-loop
 read-header-requires c κs = search needs
 
--- src/lib.rt:129:22
 cast-partitions : tie.Need-cast-partitions Inv-loop μ-loop
 cast-partitions c = search needs
 
--- src/lib.rt:131:9
 loop-holds : tie.Need-loop-holds Inv-loop μ-loop
 loop-holds c =
     let a = c .before .before .before .before .args in
     (search needs, ap (λ (h : Header). firstFrom (openSlot (a .image .now) (a .cells .now)) 0 (h .partitions)) (sym (c .before .read-header .ensures)) ∙ first-start _ _)
 
--- src/lib.rt:135:13
 slot-at-requires : tie.Need-slot-at-requires Inv-loop μ-loop
 slot-at-requires c κs =
     let start = c .before .before .before .before .before .before in
     let p = ap (λ (h : Header). h .partitions) (c .before .before .before .read-header .ensures) in
     (start .pre, omega arith)
 
--- src/lib.rt:136:12
 is-present-requires : tie.Need-is-present-requires Inv-loop μ-loop
 is-present-requires c κs = search needs
 
--- src/lib.rt:139:9
 add-i : tie.Need-add-i Inv-loop μ-loop
 add-i c = search needs
 
--- src/lib.rt:131:9
 loop-less : tie.Need-loop-less Inv-loop μ-loop
 loop-less c = search needs
 
--- src/lib.rt:131:9
 loop-again : tie.Need-loop-again Inv-loop μ-loop
 loop-again c =
     let turn = c .before .before .before in
     (omega arith, turn .before .loop .inv .1 ∙ first-next _ _ _ (turn .if1 .left) (sym (open-is _ _ _ _ _ (c .before .before .slot-at .ensures) (c .before .is-present .ensures)) ∙ c .if2 .left))
 
--- src/lib.rt:124:1
 returns : tie.Need-returns Inv-loop μ-loop
 returns c =
     let top = c .before in
     let p = ap (λ (h : Header). h .partitions) (top .before .before .read-header .ensures) in
     sym (active-none _ _ (top .loop .inv .1 ∙ first-end _ _ _ (omega arith) ∙ p))
 
--- src/lib.rt:124:1
 returns-2 : tie.Need-returns-2 Inv-loop μ-loop
 returns-2 c =
     let turn = c .before .before .before in

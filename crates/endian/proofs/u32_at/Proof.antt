@@ -1,46 +1,35 @@
+-- `endian::u32_at` meets its contract: two halves, as in `u16_at`. Assumes nothing.
 use mathlib.Core.Path.{sym}
 use native.Mathlib.Omega.{arith}
-use Rattle.endian.specs.Endian.{u32At, past-u32}
 use borrow.Author.Needs.{needs}
+use Rattle.endian.specs.Endian.{u32At, past-u32}
 use Rattle.endian.proofs.u32_at.Statement.{statement}
 use Rattle.endian.proofs.u32_at.Tie as tie
-use Rattle.endian.proofs.u32_at.Reads as reads
-use Rattle.endian.proofs.u32_at.Lts as lts
-use Rattle.endian.proofs.u16_at.Reads as u16-at-reads
 
--- src/lib.rt:31:9
 returns : tie.Need-returns
 returns c = sym (past-u32 _ _ (c .if1 .taken))
 
--- src/lib.rt:33:9
 u16-at-requires : tie.Need-u16-at-requires
 u16-at-requires c κs = search needs
 
--- src/lib.rt:34:30
 add-u16-at : tie.Need-add-u16-at
 add-u16-at c = search needs
 
--- src/lib.rt:34:9
 u16-at-requires-2 : tie.Need-u16-at-requires-2
 u16-at-requires-2 c κs = search needs
 
--- src/lib.rt:35:6
 cast-result : tie.Need-cast-result
 cast-result c = search needs
 
--- src/lib.rt:35:29
 cast-result-2 : tie.Need-cast-result-2
 cast-result-2 c = search needs
 
--- src/lib.rt:35:20
 mul-result : tie.Need-mul-result
 mul-result c = search needs
 
--- src/lib.rt:35:5
 add-result : tie.Need-add-result
 add-result c = search needs
 
--- src/lib.rt:27:1
 returns-2 : tie.Need-returns-2
 unfolding u32At
 returns-2 c = omega arith

@@ -1,16 +1,13 @@
+-- `fuse::ones` meets its contract: the language's count is `onesOf`. Assumes nothing.
 use mathlib.Core.Path.{sym}
 use native.Mathlib.Omega.{arith}
 use Rattle.fuse.specs.Burn.{ones-counted, ones-most}
 use Rattle.fuse.proofs.ones.Statement.{statement}
 use Rattle.fuse.proofs.ones.Tie as tie
-use Rattle.fuse.proofs.ones.Reads as reads
-use Rattle.fuse.proofs.ones.Lts as lts
 
--- src/lib.rt:27:5
 cast-result : tie.Need-cast-result
 cast-result c = omega (arith, ones-counted (c .fits .fuses .fits), ones-most (c .args .fuses))
 
--- src/lib.rt:24:1
 returns : tie.Need-returns
 returns c = sym (ones-counted (c .fits .fuses .fits))
 

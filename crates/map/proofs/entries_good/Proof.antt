@@ -1,16 +1,14 @@
+-- `map::entries_good` meets its contract: the loop's invariant: the entries below `i` are good. Assumes nothing.
+use Prim.Native.Nat.{_≤_, _-_}
+use mathlib.Core.Path.{_≡_, refl, sym, _∙_}
+use mathlib.Core.Bool.{true}
 use native.Mathlib.Omega.{arith}
 use borrow.Author.Tests.{not-true, not-false}
-use Prim.Native.Nat.{_≤_, _-_}
-use mathlib.Core.Path.{_≡_, refl, sym, ap, _∙_}
-use mathlib.Core.Bool.{true}
+use borrow.Author.Needs.{needs}
 use Rattle.laws.specs.Below.{allBelow, all-step, all-fails}
 use Rattle.map.specs.Map.{placeGood}
-use borrow.Author.Needs.{needs}
 use Rattle.map.proofs.entries_good.Statement.{statement}
 use Rattle.map.proofs.entries_good.Tie as tie
-use Rattle.map.proofs.entries_good.Reads as reads
-use Rattle.map.proofs.entries_good.Lts as lts
-use Rattle.map.proofs.place_good.Reads as place-good-reads
 
 abbrev Inv-loop : tie.InvT-loop
 Inv-loop image partitions i₀ i = (i ≤ partitions) × (allBelow (placeGood image) i ≡ true)
@@ -18,32 +16,25 @@ Inv-loop image partitions i₀ i = (i ≤ partitions) × (allBelow (placeGood im
 abbrev μ-loop : tie.MeasureT-loop
 μ-loop image partitions i₀ i = partitions - i
 
--- src/lib.rt:175:5
 loop-holds : tie.Need-loop-holds Inv-loop μ-loop
 unfolding allBelow
 loop-holds c = (search needs, refl)
 
--- src/lib.rt:176:13
 place-good-requires : tie.Need-place-good-requires Inv-loop μ-loop
 place-good-requires c κs = search needs
 
--- src/lib.rt:177:13
 returns : tie.Need-returns Inv-loop μ-loop
 returns c = sym (all-fails _ _ _ (c .before .before .loop-test .taken) (sym (c .before .place-good .ensures) ∙ not-true _ (c .if1 .taken)))
 
--- src/lib.rt:179:9
 add-i : tie.Need-add-i Inv-loop μ-loop
 add-i c = search needs
 
--- src/lib.rt:175:5
 loop-less : tie.Need-loop-less Inv-loop μ-loop
 loop-less c = search needs
 
--- src/lib.rt:175:5
 loop-again : tie.Need-loop-again Inv-loop μ-loop
 loop-again c = (omega arith, all-step _ _ (c .before .before .before .loop .inv .1) (sym (c .before .place-good .ensures) ∙ not-false _ (c .if1 .left)))
 
--- src/lib.rt:171:1
 returns-2 : tie.Need-returns-2 Inv-loop μ-loop
 returns-2 c = let e : c .before .loop .i ≡ c .before .before .before .args .partitions = omega arith in cc
 

@@ -1,45 +1,30 @@
-use Rattle.map.specs.Laws.{place-is}
+-- `map::place_good` meets its contract: the fields that are read, put into the rule of entry i. Assumes nothing.
 use borrow.Author.Needs.{needs}
+use Rattle.map.specs.Laws.{place-is}
 use Rattle.map.proofs.place_good.Statement.{statement}
 use Rattle.map.proofs.place_good.Tie as tie
-use Rattle.map.proofs.place_good.Reads as reads
-use Rattle.map.proofs.place_good.Lts as lts
-use Rattle.endian.proofs.u16_at.Reads as u16-at-reads
-use Rattle.map.proofs.end_before.Reads as end-before-reads
-use Rattle.map.proofs.entry_good.Reads as entry-good-reads
-use Rattle.map.proofs.entry_place.Reads as entry-place-reads
-use Rattle.map.proofs.read_entry.Reads as read-entry-reads
-use Rattle.map.proofs.read_header.Reads as read-header-reads
 
--- src/lib.rt:162:9
 end-before-requires : tie.Need-end-before-requires
 end-before-requires c κs = search needs
 
--- src/lib.rt:163:9
 read-header-requires : tie.Need-read-header-requires
 read-header-requires c κs = search needs
 
--- src/lib.rt:164:9
 read-entry-requires : tie.Need-read-entry-requires
 read-entry-requires c κs = search needs
 
--- src/lib.rt:165:9
 entry-place-requires : tie.Need-entry-place-requires
 entry-place-requires c κs = search needs
 
--- src/lib.rt:166:39
 add-u16-at : tie.Need-add-u16-at
 add-u16-at c = search needs
 
--- src/lib.rt:166:9
 u16-at-requires : tie.Need-u16-at-requires
 u16-at-requires c κs = search needs
 
--- src/lib.rt:167:5
 entry-good-requires : tie.Need-entry-good-requires
 entry-good-requires c κs = search needs
 
--- src/lib.rt:159:1
 returns : tie.Need-returns
 returns c =
     let spare = c .before in

@@ -1,15 +1,13 @@
-use Prim.Native.Nat.{_≤_, _-_, _*_}
-use mathlib.Core.Path.{_≡_, refl, sym, ap, _∙_}
+-- `partition::lowest_short` meets its contract: the loop's invariant: the search from `j` on answers for the whole. Assumes nothing.
+use Prim.Native.Nat.{_≤_, _-_}
+use mathlib.Core.Path.{_≡_, sym, _∙_}
 use native.Mathlib.Omega.{arith}
+use borrow.Author.Needs.{needs}
 use Rattle.laws.specs.Below.{firstFrom, first-start, first-here, first-next, first-end}
 use Rattle.partition.specs.Partition.{shortAt, lowestPair}
 use Rattle.partition.specs.Laws.{lowest-cell, lowest-none}
-use borrow.Author.Needs.{needs}
 use Rattle.partition.proofs.lowest_short.Statement.{statement}
 use Rattle.partition.proofs.lowest_short.Tie as tie
-use Rattle.partition.proofs.lowest_short.Reads as reads
-use Rattle.partition.proofs.lowest_short.Lts as lts
-use Rattle.partition.proofs.short_at.Reads as short-at-reads
 
 abbrev Inv-loop : tie.InvT-loop
 Inv-loop part bound pairs j₀ j = (j ≤ pairs) × (lowestPair bound part ≡ firstFrom (shortAt bound part) j (pairs - j))
@@ -17,39 +15,31 @@ Inv-loop part bound pairs j₀ j = (j ≤ pairs) × (lowestPair bound part ≡ f
 abbrev μ-loop : tie.MeasureT-loop
 μ-loop part bound pairs j₀ j = pairs - j
 
--- src/lib.rt:60:5
 loop-holds : tie.Need-loop-holds Inv-loop μ-loop
 loop-holds c = (omega arith, first-start _ _)
 
--- src/lib.rt:61:12
 short-at-requires : tie.Need-short-at-requires Inv-loop μ-loop
 short-at-requires c κs = search needs
 
--- src/lib.rt:62:33
 mul-t8 : tie.Need-mul-t8 Inv-loop μ-loop
 mul-t8 c = search needs
 
--- src/lib.rt:62:13
 returns : tie.Need-returns Inv-loop μ-loop
 returns c =
     let turn = c .before .before in
     lowest-cell _ _ _ (turn .loop-test .taken) (turn .before .loop .inv .1 ∙ first-here _ _ _ (turn .loop-test .taken) (sym (c .before .short-at .ensures) ∙ c .if1 .taken))
 
--- src/lib.rt:64:9
 add-j : tie.Need-add-j Inv-loop μ-loop
 add-j c = search needs
 
--- src/lib.rt:60:5
 loop-less : tie.Need-loop-less Inv-loop μ-loop
 loop-less c = search needs
 
--- src/lib.rt:60:5
 loop-again : tie.Need-loop-again Inv-loop μ-loop
 loop-again c =
     let turn = c .before .before in
     (omega arith, turn .before .loop .inv .1 ∙ first-next _ _ _ (turn .loop-test .taken) (sym (c .before .short-at .ensures) ∙ c .if1 .left))
 
--- src/lib.rt:55:1
 returns-2 : tie.Need-returns-2 Inv-loop μ-loop
 returns-2 c = lowest-none _ _ (c .before .loop .inv .1 ∙ first-end _ _ _ (omega arith))
 

@@ -1,35 +1,25 @@
+-- `report::put_drive` meets its contract: what an accepted input tells is what each call asks. Assumes nothing.
 use mathlib.Core.Path.{_≡_}
 use native.Mathlib.Omega.{arith}
 use lib.ListN.{take, length-take}
+use borrow.Author.Needs.{needs}
 use Rattle.report.specs.Status.{cellsOf}
 use Rattle.report.specs.Laws.{Taken, accepted, taken, cells-are, cells-long}
-use borrow.Author.Needs.{needs}
 use Rattle.report.proofs.put_drive.Statement.{statement}
 use Rattle.report.proofs.put_drive.Tie as tie
-use Rattle.report.proofs.put_drive.Reads as reads
-use Rattle.report.proofs.put_drive.Lts as lts
-use Rattle.endian.proofs.u16_at.Reads as u16-at-reads
-use Rattle.map.proofs.read_header.Reads as read-header-reads
-use Rattle.report.proofs.put_table.Reads as put-table-reads
-use Rattle.report.proofs.read_cells.Reads as read-cells-reads
 
--- src/lib.rt:177:19
 u16-at-requires : tie.Need-u16-at-requires
 u16-at-requires c κs = search needs
 
--- src/lib.rt:177:19
 cast-end : tie.Need-cast-end
 cast-end c = search needs
 
--- src/lib.rt:177:15
 add-end : tie.Need-add-end
 add-end c = search needs
 
--- src/lib.rt:178:17
 sub-image : tie.Need-sub-image
 sub-image c = search needs
 
--- src/lib.rt:178:17
 part-image-start : tie.Need-part-image-start
 part-image-start c = search needs
 
@@ -37,31 +27,24 @@ part-image-start c = search needs
 told : (c : tie.After-read-header) → let start = c .before .before .before .before .before in Taken (start .args .input .now) (c .before .before .u16-at .result) (c .read-header .result)
 told c = taken _ _ _ (c .before .before .before .before .before .pre .0) (c .before .before .u16-at .ensures) (c .read-header .ensures)
 
--- src/lib.rt:178:17
 part-image-end : tie.Need-part-image-end
 part-image-end c = let a = accepted _ (c .before .before .before .pre .0) in omega arith
 
--- src/lib.rt:179:9
 read-header-requires : tie.Need-read-header-requires
 read-header-requires c κs = search needs
 
--- src/lib.rt:180:17
 cast-count : tie.Need-cast-count
 cast-count c = search needs
 
--- src/lib.rt:182:35
 slice-aggregate-read-cells : tie.Need-slice-aggregate-read-cells
 slice-aggregate-read-cells c = search needs
 
--- src/lib.rt:182:5
 read-cells-requires : tie.Need-read-cells-requires
 read-cells-requires c κs = let t = told (c .before .before) in omega arith
 
--- src/lib.rt:183:27
 array-share-prefix-numbers : tie.Need-array-share-prefix-numbers
 array-share-prefix-numbers c = let t = told (c .before .before .before .before .before) in omega (arith, c .before .before .read-cells .kept .1 .1 .1 .0)
 
--- src/lib.rt:183:27
 slice-aggregate-put-table : tie.Need-slice-aggregate-put-table
 slice-aggregate-put-table c = let t = told (c .before .before .before .before .before .before) in simp length-take (omega (arith, c .before .before .before .read-cells .kept .1 .1 .1 .0))
 
@@ -71,17 +54,14 @@ read c =
     let h = c .before .before .before .before .before .before in
     cells-are _ _ _ _ _ (h .before .before .u16-at .ensures) (told h .count) (c .before .before .before .read-cells .ensures)
 
--- src/lib.rt:183:5
 put-table-requires : tie.Need-put-table-requires
 put-table-requires c κs =
     let t = told (c .before .before .before .before .before .before) in
     (rw (t .image, read c) (record { good = t .good; long = cells-long _ }), c .before .before .before .before .before .before .before .before .before .before .before .pre .1)
 
--- src/lib.rt:173:1
 same-length : tie.Need-same-length
 same-length c = search needs
 
--- src/lib.rt:173:1
 returns : tie.Need-returns
 returns c =
     let n = c .before .before .before in

@@ -1,73 +1,54 @@
+-- `report::put_hek` meets its contract: the two cases of the last line. Assumes nothing.
 use mathlib.Core.Path.{sym, _∙_}
-use borrow.Author.Tests.{not-true, not-false}
 use native.Mathlib.Omega.{arith}
+use borrow.Author.Tests.{not-true, not-false}
+use borrow.Author.Needs.{needs}
 use Rattle.text.specs.Put.{then}
 use Rattle.report.specs.Laws.{hek-none, hek-some}
-use borrow.Author.Needs.{needs}
 use Rattle.report.proofs.put_hek.Statement.{statement}
 use Rattle.report.proofs.put_hek.Tie as tie
-use Rattle.report.proofs.put_hek.Reads as reads
-use Rattle.report.proofs.put_hek.Lts as lts
-use Rattle.drive.proofs.is_available.Reads as is-available-reads
-use Rattle.drive.proofs.slot_number.Reads as slot-number-reads
-use Rattle.text.proofs.put.Reads as put-reads
-use Rattle.text.proofs.put_decimal.Reads as put-decimal-reads
 
--- src/lib.rt:95:9
 is-available-requires : tie.Need-is-available-requires
 is-available-requires c κs = search needs
 
--- src/lib.rt:96:29
 slice-aggregate-put : tie.Need-slice-aggregate-put
 slice-aggregate-put c = search needs
 
--- src/lib.rt:96:9
 put-requires : tie.Need-put-requires
 put-requires c κs = search needs
 
--- src/lib.rt:96:9
 same-length : tie.Need-same-length
 same-length c = search needs
 
--- src/lib.rt:96:9
 returns : tie.Need-returns
 returns c =
     let branch = c .before .before .before .before .before in
     rw (hek-none _ (sym (branch .before .is-available .ensures) ∙ not-true _ (branch .if1 .taken))) (c .before .before .put .ensures, omega arith)
 
--- src/lib.rt:98:21
 slot-number-requires : tie.Need-slot-number-requires
 slot-number-requires c κs = search needs
 
--- src/lib.rt:98:21
 cast-partition : tie.Need-cast-partition
 cast-partition c = search needs
 
--- src/lib.rt:99:26
 slice-aggregate-put-2 : tie.Need-slice-aggregate-put-2
 slice-aggregate-put-2 c = search needs
 
--- src/lib.rt:99:9
 put-requires-2 : tie.Need-put-requires-2
 put-requires-2 c κs = search needs
 
--- src/lib.rt:100:9
 put-decimal-requires : tie.Need-put-decimal-requires
 put-decimal-requires c κs = search needs
 
--- src/lib.rt:101:17
 slice-aggregate-put-3 : tie.Need-slice-aggregate-put-3
 slice-aggregate-put-3 c = search needs
 
--- src/lib.rt:101:5
 put-requires-3 : tie.Need-put-requires-3
 put-requires-3 c κs = search needs
 
--- src/lib.rt:91:1
 same-length-2 : tie.Need-same-length-2
 same-length-2 c = search needs
 
--- src/lib.rt:91:1
 returns-2 : tie.Need-returns-2
 returns-2 c =
     let end = c .before .before in

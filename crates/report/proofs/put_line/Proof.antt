@@ -1,63 +1,45 @@
+-- `report::put_line` meets its contract: eight pieces, one after the other, are one line. Assumes nothing.
 use Prim.Native.Nat.{_+_, _≤_}
-use Rattle.text.specs.Put.{Put}
-use Prim.Native.Nat.{ℕ}
 use native.Mathlib.Omega.{arith}
-use Rattle.text.specs.Put.{then}
-use Rattle.report.specs.Status.{lineOf}
 use borrow.Author.Needs.{needs}
+use Rattle.text.specs.Put.{Put, then}
+use Rattle.report.specs.Status.{lineOf}
 use Rattle.report.proofs.put_line.Statement.{statement}
 use Rattle.report.proofs.put_line.Tie as tie
-use Rattle.report.proofs.put_line.Reads as reads
-use Rattle.report.proofs.put_line.Lts as lts
-use Rattle.text.proofs.put.Reads as put-reads
-use Rattle.text.proofs.put_decimal.Reads as put-decimal-reads
-use Rattle.report.proofs.put_name.Reads as put-name-reads
 
--- src/lib.rt:80:9
 put-decimal-requires : tie.Need-put-decimal-requires
 put-decimal-requires c κs = search needs
 
--- src/lib.rt:81:25
 slice-aggregate-put : tie.Need-slice-aggregate-put
 slice-aggregate-put c = search needs
 
--- src/lib.rt:81:9
 put-requires : tie.Need-put-requires
 put-requires c κs = search needs
 
--- src/lib.rt:82:9
 put-decimal-requires-2 : tie.Need-put-decimal-requires-2
 put-decimal-requires-2 c κs = search needs
 
--- src/lib.rt:83:25
 slice-aggregate-put-2 : tie.Need-slice-aggregate-put-2
 slice-aggregate-put-2 c = search needs
 
--- src/lib.rt:83:9
 put-requires-2 : tie.Need-put-requires-2
 put-requires-2 c κs = search needs
 
--- src/lib.rt:84:9
 put-name-requires : tie.Need-put-name-requires
 put-name-requires c κs = search needs
 
--- src/lib.rt:85:25
 slice-aggregate-put-3 : tie.Need-slice-aggregate-put-3
 slice-aggregate-put-3 c = search needs
 
--- src/lib.rt:85:9
 put-requires-3 : tie.Need-put-requires-3
 put-requires-3 c κs = search needs
 
--- src/lib.rt:86:9
 put-decimal-requires-3 : tie.Need-put-decimal-requires-3
 put-decimal-requires-3 c κs = search needs
 
--- src/lib.rt:87:17
 slice-aggregate-put-4 : tie.Need-slice-aggregate-put-4
 slice-aggregate-put-4 c = search needs
 
--- src/lib.rt:87:5
 put-requires-4 : tie.Need-put-requires-4
 put-requires-4 c κs = omega (arith, c .before .before .before .before .before)
 
@@ -77,11 +59,9 @@ whole c =
       omega (arith, number .put-decimal .ensures .1, space1 .put .ensures .is-next, cells .put-decimal2 .ensures .1, space2 .put2 .ensures .is-next, name .put-name .ensures .1, space3 .put3 .ensures .is-next, short .put-decimal3 .ensures .1, end .put4 .ensures .is-next),
     )
 
--- src/lib.rt:74:1
 same-length : tie.Need-same-length
 same-length c = whole c .0 .same
 
--- src/lib.rt:74:1
 returns : tie.Need-returns
 returns c = whole c
 

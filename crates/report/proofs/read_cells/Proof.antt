@@ -1,17 +1,15 @@
-use mathlib.Core.Path.{_≡_, ap}
-use mathlib.Core.List.{_++_}
+-- `report::read_cells` meets its contract: the loop's invariant: the front of `cells` holds the first `k` numbers, the rest is as it was. Assumes nothing.
 use Prim.Native.Nat.{_≤_, _-_}
+use mathlib.Core.Path.{_≡_}
+use mathlib.Core.List.{_++_}
 use native.Mathlib.Omega.{arith}
 use lib.ListN.{length, drop, length-set}
+use borrow.Author.Needs.{needs}
 use Rattle.laws.specs.Below.{joinBelow}
 use Rattle.report.specs.Status.{numberAt}
 use Rattle.report.specs.Laws.{stored}
-use borrow.Author.Needs.{needs}
 use Rattle.report.proofs.read_cells.Statement.{statement}
 use Rattle.report.proofs.read_cells.Tie as tie
-use Rattle.report.proofs.read_cells.Reads as reads
-use Rattle.report.proofs.read_cells.Lts as lts
-use Rattle.endian.proofs.u32_at.Reads as u32-at-reads
 
 abbrev Inv-loop : tie.InvT-loop
 Inv-loop input from count cells₀ k₀ cells k = (k ≤ count) × (length cells ≡ length cells₀) × (cells ≡ joinBelow (numberAt input from) k ++ drop k cells₀)
@@ -19,50 +17,39 @@ Inv-loop input from count cells₀ k₀ cells k = (k ≤ count) × (length cells
 abbrev μ-loop : tie.MeasureT-loop
 μ-loop input from count cells₀ k₀ cells k = count - k
 
--- src/lib.rt:148:5
 loop-holds : tie.Need-loop-holds Inv-loop μ-loop
 unfolding joinBelow
 loop-holds c = search needs
 
--- src/lib.rt:149:49
 mul-u32-at : tie.Need-mul-u32-at Inv-loop μ-loop
 mul-u32-at c = search needs
 
--- src/lib.rt:149:42
 add-u32-at : tie.Need-add-u32-at Inv-loop μ-loop
 add-u32-at c = search needs
 
--- src/lib.rt:149:20
 u32-at-requires : tie.Need-u32-at-requires Inv-loop μ-loop
 u32-at-requires c κs = search needs
 
--- src/lib.rt:149:9
 mul-cells : tie.Need-mul-cells Inv-loop μ-loop
 mul-cells c = search needs
 
--- src/lib.rt:149:9
 slice-write-cells : tie.Need-slice-write-cells Inv-loop μ-loop
 slice-write-cells c = search needs
 
--- src/lib.rt:150:9
 add-k : tie.Need-add-k Inv-loop μ-loop
 add-k c = search needs
 
--- src/lib.rt:148:5
 loop-less : tie.Need-loop-less Inv-loop μ-loop
 loop-less c = search needs
 
--- src/lib.rt:148:5
 loop-again : tie.Need-loop-again Inv-loop μ-loop
 loop-again c =
     let top = c .before .before in
     (omega arith, simp length-set (top .loop .inv .1), stored _ _ _ _ _ _ (omega arith) (c .u32-at .ensures) (top .loop .inv .2))
 
--- src/lib.rt:143:1
 same-length : tie.Need-same-length Inv-loop μ-loop
 same-length c = c .before .loop .inv .1
 
--- src/lib.rt:143:1
 returns : tie.Need-returns Inv-loop μ-loop
 returns c =
     let e : c .before .loop .k ≡ c .before .before .before .before .args .count = omega arith in

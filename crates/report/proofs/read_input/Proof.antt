@@ -1,64 +1,47 @@
-use Prim.Native.Nat.{ℕ}
+-- `report::read_input` meets its contract: one law for each refusal. Assumes nothing.
+use Prim.Native.Nat.{ℕ, _*_, _+_}
 use mathlib.Core.Bool.{true}
-use Rattle.report.specs.Status.{cellCount, imageOf}
 use mathlib.Core.Path.{_≡_, sym, ap, _∙_}
-use borrow.Author.Tests.{not-true, not-false}
-use Prim.Native.Nat.{_*_, _+_}
 use native.Mathlib.Omega.{arith}
-use lib.ListN.{length}
+use borrow.Author.Tests.{not-true, not-false}
+use borrow.Author.Needs.{needs}
 use Rattle.map.specs.Map.{mapGood, headerOf}
 use Rattle.map.specs.declared.Header.{Header}
+use Rattle.report.specs.Status.{cellCount, imageOf}
 use Rattle.report.specs.Laws.{cut-length, long-map, cut-map, image-is, bad-map, whole-drive, not-whole}
-use borrow.Author.Needs.{needs}
 use Rattle.report.proofs.read_input.Statement.{statement}
 use Rattle.report.proofs.read_input.Tie as tie
-use Rattle.report.proofs.read_input.Reads as reads
-use Rattle.report.proofs.read_input.Lts as lts
-use Rattle.endian.proofs.u16_at.Reads as u16-at-reads
-use Rattle.map.proofs.is_good.Reads as is-good-reads
-use Rattle.map.proofs.read_header.Reads as read-header-reads
 
--- src/lib.rt:121:9
 returns : tie.Need-returns
 returns c = sym (cut-length _ (c .if1 .taken))
 
--- src/lib.rt:123:15
 u16-at-requires : tie.Need-u16-at-requires
 u16-at-requires c κs = search needs
 
--- src/lib.rt:123:15
 cast-len : tie.Need-cast-len
 cast-len c = search needs
 
--- src/lib.rt:125:9
 returns-2 : tie.Need-returns-2
 returns-2 c = sym (long-map _ _ (c .before .u16-at .ensures) (c .before .before .if1 .left) (c .if2 .taken))
 
--- src/lib.rt:127:15
 add-end : tie.Need-add-end
 add-end c = search needs
 
--- src/lib.rt:129:9
 returns-3 : tie.Need-returns-3
 returns-3 c = sym (cut-map _ _ (c .before .before .u16-at .ensures) (c .before .before .before .if1 .left) (c .before .if2 .left) (c .if3 .taken))
 
--- src/lib.rt:131:17
 sub-image : tie.Need-sub-image
 sub-image c = search needs
 
--- src/lib.rt:131:17
 part-image-start : tie.Need-part-image-start
 part-image-start c = search needs
 
--- src/lib.rt:131:17
 part-image-end : tie.Need-part-image-end
 part-image-end c = search needs
 
--- src/lib.rt:132:9
 is-good-requires : tie.Need-is-good-requires
 is-good-requires c κs = search needs
 
--- src/lib.rt:133:9
 returns-4 : tie.Need-returns-4
 returns-4 c =
     let three = c .before .before .before in
@@ -66,19 +49,15 @@ returns-4 c =
     let two = len .before .if1 .left in
     sym (bad-map _ _ (len .u16-at .ensures) two (three .before .if2 .left) (three .if3 .left) (ap mapGood (sym (image-is _ _ (len .u16-at .ensures) two)) ∙ sym (c .before .is-good .ensures) ∙ not-true _ (c .if4 .taken)))
 
--- src/lib.rt:135:9
 read-header-requires : tie.Need-read-header-requires
 read-header-requires c κs = search needs
 
--- src/lib.rt:136:34
 cast-if5 : tie.Need-cast-if5
 cast-if5 c = search needs
 
--- src/lib.rt:136:29
 mul-if5 : tie.Need-mul-if5
 mul-if5 c = search needs
 
--- src/lib.rt:136:23
 add-if5 : tie.Need-add-if5
 add-if5 c = search needs
 
@@ -91,7 +70,6 @@ judged c =
     let image = image-is _ _ (len .u16-at .ensures) (len .before .if1 .left) in
     (ap (λ (h : Header). h .cells) (header .read-header .ensures ∙ ap headerOf image), ap mapGood (sym image) ∙ sym (isgood .is-good .ensures) ∙ not-false _ (header .before .if4 .left))
 
--- src/lib.rt:137:9
 returns-5 : tie.Need-returns-5
 returns-5 c =
     let three = c .before .before .before .before .before .before in
@@ -99,7 +77,6 @@ returns-5 c =
     let j = judged (c .before) in
     sym (whole-drive _ _ (len .u16-at .ensures) (len .before .if1 .left) (three .before .if2 .left) (three .if3 .left) (j .1) (omega arith))
 
--- src/lib.rt:117:1
 returns-6 : tie.Need-returns-6
 returns-6 c =
     let three = c .before .before .before .before .before .before in

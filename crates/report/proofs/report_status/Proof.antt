@@ -1,41 +1,30 @@
+-- `report::report_status` meets its contract: the line of a refusal, or the table. Assumes nothing.
 use mathlib.Core.Path.{sym, _∙_}
-use Rattle.report.specs.Laws.{printed-by}
 use borrow.Author.Needs.{needs}
+use Rattle.report.specs.Laws.{printed-by}
 use Rattle.report.proofs.report_status.Statement.{statement}
 use Rattle.report.proofs.report_status.Tie as tie
-use Rattle.report.proofs.report_status.Reads as reads
-use Rattle.report.proofs.report_status.Lts as lts
-use Rattle.report.proofs.put_drive.Reads as put-drive-reads
-use Rattle.report.proofs.put_refused.Reads as put-refused-reads
-use Rattle.report.proofs.read_input.Reads as read-input-reads
 
--- src/lib.rt:191:11
 read-input-requires : tie.Need-read-input-requires
 read-input-requires c κs = search needs
 
--- src/lib.rt:192:26
 enum-known-number : tie.Need-enum-known-number
 enum-known-number c = search needs
 
--- src/lib.rt:192:37
 put-refused-requires : tie.Need-put-refused-requires
 put-refused-requires c κs = search needs
 
--- src/lib.rt:193:37
 enum-told : tie.Need-enum-told
 enum-told c = search needs
 
--- src/lib.rt:193:27
 put-drive-requires : tie.Need-put-drive-requires
 put-drive-requires c κs = (sym (c .before .before .before .read-input .ensures) ∙ c .before .enum-told .given .1, search needs)
 
--- src/lib.rt:188:1
 returns : tie.Need-returns
 returns c =
     let told = c .before .before .before in
     printed-by _ _ _ _ _ (sym (told .before .before .read-input .ensures) ∙ told .number .given .1) (c .put-refused .ensures)
 
--- src/lib.rt:188:1
 returns-2 : tie.Need-returns-2
 returns-2 c =
     let told = c .before .before in

@@ -1,52 +1,37 @@
+-- `status::main` meets its contract: the counts lie within the buffers. Assumes nothing.
 use native.Mathlib.Omega.{arith}
 use lib.ListN.{length-take}
 use borrow.Author.Needs.{needs}
 use Rattle.status.proofs.main.Statement.{statement}
 use Rattle.status.proofs.main.Tie as tie
-use Rattle.status.proofs.main.Reads as reads
-use Rattle.status.proofs.main.Lts as lts
-use Rattle.io.proofs.large_buffer.Reads as large-buffer-reads
-use Rattle.io.proofs.read_full.Reads as read-full-reads
-use Rattle.io.proofs.write_all.Reads as write-all-reads
-use Rattle.report.proofs.report_status.Reads as report-status-reads
 
--- src/main.rt:8:21
 large-buffer-requires : tie.Need-large-buffer-requires
 large-buffer-requires c κs = search needs
 
--- src/main.rt:9:43
 slice-aggregate-read-full : tie.Need-slice-aggregate-read-full
 slice-aggregate-read-full c = search needs
 
--- src/main.rt:9:9
 read-full-requires : tie.Need-read-full-requires
 read-full-requires c κs = search needs
 
--- src/main.rt:11:39
 array-share-prefix-input : tie.Need-array-share-prefix-input
 array-share-prefix-input c = search needs
 
--- src/main.rt:11:39
 slice-aggregate-report-status : tie.Need-slice-aggregate-report-status
 slice-aggregate-report-status c = search needs
 
--- src/main.rt:11:9
 report-status-requires : tie.Need-report-status-requires
 report-status-requires c κs = search needs
 
--- src/main.rt:12:34
 array-share-prefix-out : tie.Need-array-share-prefix-out
 array-share-prefix-out c = c .report-status .ensures .fits
 
--- src/main.rt:12:34
 slice-aggregate-write-all : tie.Need-slice-aggregate-write-all
 slice-aggregate-write-all c = simp length-take (omega (arith, c .before .report-status .ensures .fits))
 
--- src/main.rt:12:5
 write-all-requires : tie.Need-write-all-requires
 write-all-requires c κs = search needs
 
--- src/main.rt:7:1
 returns : tie.Need-returns
 returns c = search needs
 

@@ -1,54 +1,39 @@
-use Rattle.text.specs.Laws.{put-digits}
+-- `text::put_decimal` meets its contract: the digits that the code lends are the decimal. Assumes nothing.
 use borrow.Author.Needs.{needs}
+use Rattle.text.specs.Laws.{put-digits}
 use Rattle.text.proofs.put_decimal.Statement.{statement}
 use Rattle.text.proofs.put_decimal.Tie as tie
-use Rattle.text.proofs.put_decimal.Reads as reads
-use Rattle.text.proofs.put_decimal.Lts as lts
-use Rattle.text.proofs.digit_of.Reads as digit-of-reads
-use Rattle.text.proofs.leading_zeros.Reads as leading-zeros-reads
-use Rattle.text.proofs.put.Reads as put-reads
 
--- src/lib.rt:55:19
 digit-of-requires : tie.Need-digit-of-requires
 digit-of-requires c κs = search needs
 
--- src/lib.rt:55:39
 digit-of-requires-2 : tie.Need-digit-of-requires-2
 digit-of-requires-2 c κs = search needs
 
--- src/lib.rt:55:58
 digit-of-requires-3 : tie.Need-digit-of-requires-3
 digit-of-requires-3 c κs = search needs
 
--- src/lib.rt:55:76
 digit-of-requires-4 : tie.Need-digit-of-requires-4
 digit-of-requires-4 c κs = search needs
 
--- src/lib.rt:56:9
 leading-zeros-requires : tie.Need-leading-zeros-requires
 leading-zeros-requires c κs = search needs
 
--- src/lib.rt:57:18
 sub-put : tie.Need-sub-put
 sub-put c = search needs
 
--- src/lib.rt:57:18
 part-put-start : tie.Need-part-put-start
 part-put-start c = search needs
 
--- src/lib.rt:57:18
 part-put-end : tie.Need-part-put-end
 part-put-end c = search needs
 
--- src/lib.rt:57:5
 put-requires : tie.Need-put-requires
 put-requires c κs = search needs
 
--- src/lib.rt:51:1
 same-length : tie.Need-same-length
 same-length c = search needs
 
--- src/lib.rt:51:1
 returns : tie.Need-returns
 returns c =
     let done = c .before .before in

@@ -1,19 +1,14 @@
 -- Document 01, "The map of the fuses": which word starts at a cell of the whole array. Assumes nothing.
-use Prim.Native.Nat.{ℕ, _+_, _-_, _*_, _%_}
+use Prim.Native.Nat.{ℕ, _-_, _%_}
 use mathlib.Core.Bool.{Bool, true, false, cond, _&&_}
 use mathlib.Core.List.{List}
 use lib.Dec.{eqb, leb, ltb}
 use Rattle.laws.specs.Below.{firstBelow}
-use Rattle.map.specs.Map.{headerOf, entryOf, endOf, software}
+use Rattle.map.specs.Map.{headerOf, entryOf, endOf, software, tailOf}
 use Rattle.map.specs.declared.Entry.{Entry}
-use Rattle.map.specs.declared.Role.the-variants.{Data, Digest, Indicator}
-use Rattle.map.specs.declared.Lookup.{Lookup}
-use Rattle.map.specs.declared.Lookup.the-variants.{Word, Nothing}
-
--- "A zeroizable partition ends with the indicator pair, before it the digest pair; any other ends with the digest pair": the cells
--- from the digest on
-abbrev pub tailOf : Entry → ℕ
-tailOf x = 2 + 2 * (x .flags % 2)
+use Rattle.word.specs.declared.Role.the-variants.{Data, Digest, Indicator}
+use Rattle.word.specs.declared.Lookup.{Lookup}
+use Rattle.word.specs.declared.Lookup.the-variants.{Word, Nothing}
 
 -- the cells of a partition from `cell` on, itself included
 abbrev pub left : Entry → (cell : ℕ) → ℕ

@@ -1,58 +1,45 @@
+-- `word::word_in` meets its contract: the six cases of the definition. Assumes nothing.
 use borrow.Author.Tests.{lt-ltb, le-ltb, eq-eqb, ne-eqb}
-use Rattle.map.specs.Word.{wordIn}
 use borrow.Author.Needs.{needs}
-use Rattle.map.proofs.word_in.Statement.{statement}
-use Rattle.map.proofs.word_in.Tie as tie
-use Rattle.map.proofs.word_in.Reads as reads
-use Rattle.map.proofs.word_in.Lts as lts
-use Rattle.map.proofs.end_of.Reads as end-of-reads
+use Rattle.word.specs.Word.{wordIn}
+use Rattle.word.proofs.word_in.Statement.{statement}
+use Rattle.word.proofs.word_in.Tie as tie
 
--- src/lib.rt:246:16
 end-of-requires : tie.Need-end-of-requires
 end-of-requires c κs = search needs
 
--- src/lib.rt:246:16
 sub-left : tie.Need-sub-left
 sub-left c = search needs
 
--- src/lib.rt:247:25
 cast-tail : tie.Need-cast-tail
 cast-tail c = search needs
 
--- src/lib.rt:247:20
 mul-tail : tie.Need-mul-tail
 mul-tail c = search needs
 
--- src/lib.rt:247:16
 add-tail : tie.Need-add-tail
 add-tail c = search needs
 
--- src/lib.rt:250:13
 returns : tie.Need-returns
 unfolding wordIn
 returns c = let t = c .before .before in rw (← t .before .before .end-of .ensures) (simp (lt-ltb _ _ (t .if1 .taken), eq-eqb _ _ (c .if2 .taken)))
 
--- src/lib.rt:253:13
 returns-2 : tie.Need-returns-2
 unfolding wordIn
 returns-2 c = let t = c .before .before .before in rw (← t .before .before .end-of .ensures) (simp (lt-ltb _ _ (t .if1 .taken), ne-eqb _ _ (c .before .if2 .left), eq-eqb _ _ (c .if3 .taken)))
 
--- src/lib.rt:255:9
 returns-3 : tie.Need-returns-3
 unfolding wordIn
 returns-3 c = let t = c .before .before .before in rw (← t .before .before .end-of .ensures) (simp (lt-ltb _ _ (t .if1 .taken), ne-eqb _ _ (c .before .if2 .left), ne-eqb _ _ (c .if3 .left)))
 
--- src/lib.rt:258:9
 returns-4 : tie.Need-returns-4
 unfolding wordIn
 returns-4 c = let t = c .before in rw (← t .before .before .end-of .ensures) (simp (le-ltb _ _ (t .if1 .left), eq-eqb _ _ (c .if4 .taken)))
 
--- src/lib.rt:261:9
 returns-5 : tie.Need-returns-5
 unfolding wordIn
 returns-5 c = let t = c .before .before in rw (← t .before .before .end-of .ensures) (simp (le-ltb _ _ (t .if1 .left), ne-eqb _ _ (c .before .if4 .left), eq-eqb _ _ (c .if5 .taken)))
 
--- src/lib.rt:242:1
 returns-6 : tie.Need-returns-6
 unfolding wordIn
 returns-6 c = let t = c .before .before in rw (← t .before .before .end-of .ensures) (simp (le-ltb _ _ (t .if1 .left), ne-eqb _ _ (c .before .if4 .left), ne-eqb _ _ (c .if5 .left)))

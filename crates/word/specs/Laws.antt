@@ -1,26 +1,26 @@
 -- What the lookup of a word tells: first what its proof cites, then, in a good map, where a word lies, and that a cell has its word
 -- in the one partition that holds it. Assumes nothing.
-use Prim.Native.Nat.{ℕ, _+_, _-_, _*_, _%_, _≤_, _<_}
+use Prim.Native.Nat.{ℕ, _+_, _-_, _%_, _≤_, _<_}
 use mathlib.Core.Path.{_≡_, refl, sym, ap, subst, _∙_}
-use mathlib.Core.Logic.{_⊎_, inl, inr, ⊎-elim}
-use mathlib.Core.Bool.{Bool, true, false, cond, _&&_, not, false≢true}
+use mathlib.Core.Logic.{_⊎_, ⊎-elim}
+use mathlib.Core.Bool.{Bool, true, false, cond, not, false≢true}
 use mathlib.Core.List.{List}
 use native.Mathlib.Omega.{arith}
 use native.Mathlib.Nat.{eq-or-lt-of-le}
-use borrow.Author.Tests.{leb-true, ltb-true, ltb-false, eqb-true, eqb-false, eq-eqb, lt-ltb, le-ltb}
 use lib.Dec.{eqb, leb, ltb}
+use borrow.Author.Tests.{leb-true, ltb-true, ltb-false, eqb-true, eqb-false, eq-eqb, lt-ltb, le-ltb}
 use Rattle.laws.specs.Tests.{decided, not-yes, and}
-use Rattle.laws.specs.Below.{firstBelow, first-tells, first-is}
+use Rattle.laws.specs.Below.{first-tells, first-is}
 use Rattle.map.specs.declared.Header.{Header}
 use Rattle.map.specs.declared.Entry.{Entry}
-use Rattle.map.specs.declared.Role.{Role}
-use Rattle.map.specs.declared.Role.the-variants.{Data, Digest, Indicator}
-use Rattle.map.specs.declared.Lookup.{Lookup}
-use Rattle.map.specs.declared.Lookup.the-variants.{Word, Nothing}
-use Rattle.map.specs.Map.{headerOf, entryOf, endOf, software, zeroizable, mapGood}
+use Rattle.map.specs.Map.{headerOf, entryOf, endOf, software, zeroizable, mapGood, tailOf}
 use Rattle.fuse.specs.Fuse.{cellsIn}
-use Rattle.map.specs.Word.{tailOf, left, holds, wordIn, holdsAt, partitionOf, wordAt}
 use Rattle.map.specs.Laws.{map-entry, map-order}
+use Rattle.word.specs.declared.Role.{Role}
+use Rattle.word.specs.declared.Role.the-variants.{Data, Digest, Indicator}
+use Rattle.word.specs.declared.Lookup.{Lookup}
+use Rattle.word.specs.declared.Lookup.the-variants.{Word, Nothing}
+use Rattle.word.specs.Word.{left, holds, wordIn, holdsAt, partitionOf, wordAt}
 
 pub held : (x : Entry) (cell : ℕ) → holds x cell ≡ true → (x .first ≤ cell) × (cell < endOf x)
 held x cell h = let r = and (leb (x .first) cell) (ltb cell (endOf x)) h in (leb-true _ _ (r .0), ltb-true _ _ (r .1))

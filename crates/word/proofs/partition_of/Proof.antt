@@ -1,19 +1,14 @@
-use native.Mathlib.Omega.{arith}
-use Rattle.map.specs.declared.Header.{Header}
-use Rattle.map.specs.declared.Entry.{Entry}
-use Rattle.map.specs.Word.{holds}
+-- `word::partition_of` meets its contract: the loop's invariant: the search from `i` on answers for the whole. Assumes nothing.
 use Prim.Native.Nat.{_≤_, _-_}
-use mathlib.Core.Path.{_≡_, refl, sym, ap, _∙_}
-use Rattle.laws.specs.Below.{firstFrom, first-start, first-here, first-next, first-end}
-use Rattle.map.specs.Word.{holdsAt, partitionOf}
+use mathlib.Core.Path.{_≡_, sym, ap, _∙_}
+use native.Mathlib.Omega.{arith}
 use borrow.Author.Needs.{needs}
-use Rattle.map.proofs.partition_of.Statement.{statement}
-use Rattle.map.proofs.partition_of.Tie as tie
-use Rattle.map.proofs.partition_of.Reads as reads
-use Rattle.map.proofs.partition_of.Lts as lts
-use Rattle.map.proofs.holds_cell.Reads as holds-cell-reads
-use Rattle.map.proofs.read_entry.Reads as read-entry-reads
-use Rattle.map.proofs.read_header.Reads as read-header-reads
+use Rattle.map.specs.declared.Header.{Header}
+use Rattle.map.specs.declared.Entry.{Entry}
+use Rattle.laws.specs.Below.{firstFrom, first-start, first-here, first-next, first-end}
+use Rattle.word.specs.Word.{holds, holdsAt, partitionOf}
+use Rattle.word.proofs.partition_of.Statement.{statement}
+use Rattle.word.proofs.partition_of.Tie as tie
 
 abbrev Inv-loop : tie.InvT-loop
 Inv-loop image cell partitions i₀ i = (i ≤ partitions) × (partitionOf image cell ≡ firstFrom (holdsAt image cell) i (partitions - i))
@@ -21,11 +16,9 @@ Inv-loop image cell partitions i₀ i = (i ≤ partitions) × (partitionOf image
 abbrev μ-loop : tie.MeasureT-loop
 μ-loop image cell partitions i₀ i = partitions - i
 
--- src/lib.rt:228:9
 read-header-requires : tie.Need-read-header-requires Inv-loop μ-loop
 read-header-requires c κs = search needs
 
--- src/lib.rt:229:22
 cast-partitions : tie.Need-cast-partitions Inv-loop μ-loop
 cast-partitions c = search needs
 
@@ -34,41 +27,33 @@ tested : (c : tie.After-holds-cell Inv-loop μ-loop) → let top = c .before .be
 unfolding holdsAt
 tested c = c .holds-cell .ensures ∙ ap (λ (x : Entry). holds x (c .before .before .before .before .before .before .before .args .cell)) (c .before .read-entry .ensures)
 
--- src/lib.rt:231:5
 loop-holds : tie.Need-loop-holds Inv-loop μ-loop
 loop-holds c =
     let a = c .before .before .before .args in
     (search needs, ap (λ (h : Header). firstFrom (holdsAt (a .image .now) (a .cell)) 0 (h .partitions)) (sym (c .before .read-header .ensures)) ∙ first-start _ _)
 
--- src/lib.rt:232:13
 read-entry-requires : tie.Need-read-entry-requires Inv-loop μ-loop
 read-entry-requires c κs = search needs
 
--- src/lib.rt:233:12
 holds-cell-requires : tie.Need-holds-cell-requires Inv-loop μ-loop
 holds-cell-requires c κs = search needs
 
--- src/lib.rt:234:13
 returns : tie.Need-returns Inv-loop μ-loop
 returns c =
     let turn = c .before .before .before in
     sym (turn .before .loop .inv .1 ∙ first-here _ _ _ (turn .loop-test .taken) (sym (tested (c .before)) ∙ c .if1 .taken))
 
--- src/lib.rt:236:9
 add-i : tie.Need-add-i Inv-loop μ-loop
 add-i c = search needs
 
--- src/lib.rt:231:5
 loop-less : tie.Need-loop-less Inv-loop μ-loop
 loop-less c = search needs
 
--- src/lib.rt:231:5
 loop-again : tie.Need-loop-again Inv-loop μ-loop
 loop-again c =
     let turn = c .before .before .before in
     (omega arith, turn .before .loop .inv .1 ∙ first-next _ _ _ (turn .loop-test .taken) (sym (tested (c .before)) ∙ c .if1 .left))
 
--- src/lib.rt:225:1
 returns-2 : tie.Need-returns-2 Inv-loop μ-loop
 returns-2 c = sym (c .before .loop .inv .1 ∙ first-end _ _ _ (omega arith))
 

@@ -1,0 +1,71 @@
+-- A longer input: what lies past byte 16,642 (2 + 256 + 8 · 2,048) changes no answer, so that the program may stop reading there.
+-- Assumes nothing.
+use Prim.Native.Nat.{ℕ, suc, _+_, _-_, _*_, _≤_, _<_}
+use mathlib.Core.Path.{_≡_, refl, sym, ap, _∙_}
+use mathlib.Core.Logic.{⊎-elim}
+use mathlib.Core.Bool.{true, false, cond}
+use mathlib.Core.List.{List, [], _∷_}
+use native.Mathlib.Omega.{arith}
+use lib.ListN.{length, take, drop}
+use lib.Seq.{take-nil, take-take, length-take-le, getD-take}
+use lib.Dec.{ltb}
+use borrow.Author.Tests.{ltb-true, ltb-false}
+use Rattle.laws.specs.Tests.{decided}
+use Rattle.endian.specs.Endian.{u16At}
+use Rattle.map.specs.Laws.{map-header}
+use Rattle.map.specs.Map.{mapGood}
+use Rattle.report.specs.Status.{mapLength, imageOf, cellCount, refusedLine, statusOf}
+use Rattle.report.specs.Laws.{long-map, bad-map, not-whole}
+
+two-cut : (j : ℕ) (s : List ℕ) → drop 2 (take (suc (suc j)) s) ≡ take j (drop 2 s)
+two-cut j [] = sym (take-nil j)
+two-cut j (a ∷ []) = sym (take-nil j)
+two-cut j (a ∷ b ∷ s) = refl
+
+-- an input longer than any drive is refused, by its map's length and its map alone
+late : (len : ℕ) (image : List ℕ) → ℕ
+late len image = cond (ltb 256 len) 1 (cond (mapGood image) 2 1)
+
+module _ (input : List ℕ) (l : 16642 < length input) where
+  too-much : statusOf input ≡ refusedLine (late (mapLength input) (imageOf input))
+  unfolding late
+  too-much =
+      let len = mapLength input in
+      let two : 2 ≤ length input = omega arith in
+      ⊎-elim
+      (λ (a : ltb 256 len ≡ true). rw (long-map input len refl two (ltb-true 256 len a), a))
+      (λ (a : ltb 256 len ≡ false).
+      let most : len ≤ 256 = ltb-false 256 len a in
+      let whole : 2 + len ≤ length input = omega arith in
+      ⊎-elim
+      (λ (g : mapGood (imageOf input) ≡ true).
+      let cells : cellCount input ≤ 2048 = map-header (imageOf input) g .cells-most in
+      let no : length input ≡ 2 + len + 8 * cellCount input → ⊥ = λ q. omega arith in
+      rw (not-whole input len refl two most whole g no, a, g))
+      (λ (g : mapGood (imageOf input) ≡ false). rw (bad-map input len refl two most whole g, a, g))
+      (decided (mapGood (imageOf input))))
+      (decided (ltb 256 len))
+
+module _ (input : List ℕ) (k : ℕ) (l : 16642 < k) (h : k ≤ length input) where
+  -- the front that is kept holds the map's length, and the map where it is at most 256 long
+  same-length : mapLength (take k input) ≡ mapLength input
+  unfolding u16At
+  same-length = rw (getD-take k input 0 0 (omega arith), getD-take k input 1 0 (omega arith))
+
+  same-image : (len : ℕ) → len ≤ 256 → take len (drop 2 (take k input)) ≡ take len (drop 2 input)
+  same-image len n =
+      let j : k ≡ suc (suc (k - 2)) = omega arith in
+      ap (λ (m : ℕ). take len (drop 2 (take m input))) j ∙ rw (two-cut (k - 2) input) (take-take len (k - 2) (drop 2 input) (omega arith))
+
+  same-late : late (mapLength (take k input)) (imageOf (take k input)) ≡ late (mapLength input) (imageOf input)
+  unfolding late
+  same-late =
+      rw same-length (⊎-elim
+      (λ (a : ltb 256 (mapLength input) ≡ true). simp a)
+      (λ (a : ltb 256 (mapLength input) ≡ false). rw (same-image (mapLength input) (ltb-false _ _ a)))
+      (decided (ltb 256 (mapLength input))))
+
+  pub past-any-drive : statusOf (take k input) ≡ statusOf input
+  past-any-drive =
+      let long : length (take k input) ≡ k = length-take-le k input h in
+      too-much (take k input) (omega arith) ∙ ap refusedLine same-late ∙ sym (too-much input (omega arith))
