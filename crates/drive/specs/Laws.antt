@@ -1,24 +1,26 @@
 -- The drive's laws: what a check that refuses nothing tells, and the answers of the walk over the slots. Assumes nothing.
-use Prim.Native.Nat.{ℕ, _-_, _<_}
+use Prim.Native.Nat.{ℕ, _-_, _≤_, _<_}
 use mathlib.Core.Path.{_≡_, refl, ap, _∙_}
-use mathlib.Core.Bool.{Bool, true, false, cond, _&&_, not}
+use mathlib.Core.Logic.{⊎-elim}
+use mathlib.Core.Bool.{false≢true, Bool, true, false, cond, _&&_, not}
 use mathlib.Core.List.{List}
 use native.Mathlib.Omega.{arith}
 use lib.ListN.{length, take, drop}
-use lib.Dec.{eqb}
-use borrow.Author.Tests.{eqb-true, lt-ltb, le-ltb}
-use Rattle.laws.specs.Tests.{and}
-use Rattle.laws.specs.Below.{firstBelow}
+use lib.Dec.{eqb, ltb}
+use borrow.Author.Tests.{ltb-true, ltb-false, eqb-true, lt-ltb, le-ltb}
+use Rattle.laws.specs.Tests.{and, decided}
+use Rattle.laws.specs.Below.{firstBelow, First, first-tells}
 use Rattle.map.specs.declared.Header.{Header}
 use Rattle.map.specs.declared.Entry.{Entry}
 use Rattle.map.specs.Map.{headerOf, entryOf, endOf, zeroizable, slot, mapGood}
 use Rattle.partition.specs.declared.State.{State}
 use Rattle.partition.specs.declared.Survey.{Survey}
 use Rattle.partition.specs.Partition.{surveyOf}
+use Rattle.partition.specs.declared.State.the-variants.{Erased, Torn, Blank, Programmed}
 use Rattle.drive.specs.declared.Check.the-variants.{Ready, Refused}
 use Rattle.drive.specs.declared.ActiveSlot.{ActiveSlot}
-use Rattle.drive.specs.declared.ActiveSlot.the-variants.{Absent}
-use Rattle.drive.specs.Drive.{Whole, wholeArrays, checkOf, surveyAt, slotIn, slotAt, present, openSlot, activeSlot}
+use Rattle.drive.specs.declared.ActiveSlot.the-variants.{Programmed as ProgrammedSlot, Absent}
+use Rattle.drive.specs.Drive.{Whole, wholeArrays, checkOf, surveyAt, slotIn, slotAt, present, available, openSlot, activeSlot}
 
 -- ---- the check
 
@@ -91,3 +93,39 @@ slot-by image cells i x survey state e y q s = simp (rw e at y) (rw (← q) (ap 
 pub open-is : (image cells : List ℕ) (i : ℕ) (found : ActiveSlot) (there : Bool) → found ≡ slotAt image cells i → there ≡ present found → there ≡ openSlot image cells i
 unfolding openSlot
 open-is image cells i found there e p = p ∙ ap present e
+
+-- ---- what it tells that the HEK is available
+
+pub record Available (image cells : List ℕ) : Type 0 where
+  pub partition : ℕ
+  pub within : partition < headerOf image .partitions
+  pub is-slot : slot (entryOf image partition) ≡ true
+  pub programmed : surveyAt image cells partition .state ≡ Programmed
+  pub is : activeSlot image cells ≡ ProgrammedSlot partition
+  -- every slot before it is erased
+  pub before : (j : ℕ) → j < partition → openSlot image cells j ≡ false
+
+only-programmed : (b : Bool) (state : State) (i : ℕ) → available (cond b (slotIn state i) Absent) ≡ true → (b ≡ true) × (state ≡ Programmed)
+only-programmed true Programmed i e = (refl, refl)
+only-programmed true Erased i e = absurd (false≢true e)
+only-programmed true Torn i e = absurd (false≢true e)
+only-programmed true Blank i e = absurd (false≢true e)
+only-programmed false state i e = absurd (false≢true e)
+
+pub available-tells : (image cells : List ℕ) → available (activeSlot image cells) ≡ true → Available image cells
+unfolding slotAt
+available-tells image cells e =
+    let p = headerOf image .partitions in
+    let i = firstBelow (openSlot image cells) p in
+    let w : First (openSlot image cells) 0 p i = first-tells (openSlot image cells) 0 p in
+    ⊎-elim
+    (λ (l : ltb i p ≡ true).
+    let within : i < p = ltb-true i p l in
+    let here : activeSlot image cells ≡ slotAt image cells i = active-at image cells i within refl in
+    let t = only-programmed (slot (entryOf image i)) (surveyAt image cells i .state) i (rw here at e) in
+    record { partition = i; within = within; is-slot = t .0; programmed = t .1; is = here ∙ rw (t .0, t .1); before = λ j q. w .before j (omega arith) q })
+    (λ (l : ltb i p ≡ false).
+    let le : p ≤ i = ltb-false i p l in
+    let none : activeSlot image cells ≡ Absent = active-none image cells (omega (arith, w .most)) in
+    absurd (false≢true (rw none at e)))
+    (decided (ltb i p))

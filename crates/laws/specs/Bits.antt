@@ -50,14 +50,6 @@ bit-and i a b = rw and-shr (and-odd _ _)
 pub bit-xor : (i a b : ℕ) → bit i (bitXor a b) ≡ max (bit i a) (bit i b) - min (bit i a) (bit i b)
 bit-xor i a b = rw xor-shr (xor-odd _ _)
 
--- ---- so an equation of operations is one of min and max at a digit, which omega proves
-
-pub or-assoc : (a b c : ℕ) → bitOr (bitOr a b) c ≡ bitOr a (bitOr b c)
-or-assoc a b c = ext _ _ (λ i. simp bit-or (omega arith))
-
-pub and-or : (a b c : ℕ) → bitAnd (bitOr a b) c ≡ bitOr (bitAnd a c) (bitAnd b c)
-and-or a b c = ext _ _ (λ i. simp (bit-or, bit-and) (omega arith))
-
 -- ---- the order: every digit set in x is set in y. A record, so that x and y can be implicit
 
 infix 45 _⊆_

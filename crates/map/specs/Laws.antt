@@ -3,19 +3,19 @@
 use Prim.Native.Nat.{ℕ, zero, suc, _+_, _-_, _*_, _%_, _≤_, _<_}
 use mathlib.Core.Path.{_≡_}
 use mathlib.Core.Logic.{⊎-elim}
-use mathlib.Core.Bool.{Bool, true, false, cond, or-true, and-false}
+use mathlib.Core.Bool.{Bool, true, false, or-true, and-false}
 use mathlib.Core.List.{List}
 use native.Mathlib.Omega.{arith}
 use native.Mathlib.Nat.{not-suc-le-zero, eq-or-lt-of-le, le-of-suc-le-suc}
 use lib.ListN.{length}
 use lib.Dec.{ltb}
-use borrow.Author.Tests.{leb-true, eqb-true, eqb-false, le-ltb, ne-eqb}
-use Rattle.laws.specs.Tests.{decided, and, implies, not-both}
+use borrow.Author.Tests.{leb-true, eqb-true, le-ltb, ne-eqb}
+use Rattle.laws.specs.Tests.{and, implies, not-both}
 use Rattle.laws.specs.Below.{allBelow, all-at}
 use Rattle.endian.specs.Endian.{byteAt, u16At}
 use Rattle.map.specs.declared.Header.{Header}
 use Rattle.map.specs.declared.Entry.{Entry}
-use Rattle.map.specs.Map.{headerOf, entryPlace, entryOf, endOf, hardware, lifeCycle, zeroizable, secret, slot, headerGood, fillerGood, entryGood, endBefore, placeGood, mapGood, tailOf}
+use Rattle.map.specs.Map.{headerOf, entryPlace, entryOf, endOf, hardware, lifeCycle, zeroizable, secret, slot, headerGood, fillerGood, entryGood, endBefore, placeGood, mapGood}
 
 -- a byte of the filler is good where it is zero, and only there
 pub filler-zero : (s : List ℕ) (k : ℕ) → byteAt s k ≡ 0 → fillerGood s k ≡ true
@@ -96,20 +96,6 @@ pub record EntryRules (before cells : ℕ) (x : Entry) : Type 0 where
   pub secret-hardware : secret x ≡ true → hardware x ≡ true
   pub slot-zeroizable : slot x ≡ true → zeroizable x ≡ true
   pub slot-secret : slot x ≡ true → secret x ≡ true
-  -- digest and indicator leave room for data
-  pub tail-least : 2 ≤ tailOf x
-  pub tail-most : tailOf x + 2 ≤ x .n
-
--- the cells from the digest on: four of a zeroizable partition, two of any other
-pub tail-zeroizable : (x : Entry) → tailOf x ≡ cond (zeroizable x) 4 2
-tail-zeroizable x =
-    ⊎-elim (λ z. rw z (let q = eqb-true (x .flags % 2) 1 z in omega arith))
-    (λ z. rw z (let q = eqb-false (x .flags % 2) 1 z in omega arith))
-    (decided (zeroizable x))
-
-room : (x : Entry) → 4 ≤ x .n → (zeroizable x ≡ true → 6 ≤ x .n) → tailOf x + 2 ≤ x .n
-room x four six =
-    ⊎-elim (λ z. let n = six z in omega arith) (λ z. let q = eqb-false (x .flags % 2) 1 z in omega arith) (decided (zeroizable x))
 
 pub entry-rules : (before cells : ℕ) (x : Entry) (spare : ℕ) → entryGood before cells x spare ≡ true → EntryRules before cells x
 unfolding entryGood
@@ -141,8 +127,6 @@ entry-rules before cells x spare g =
       secret-hardware = λ z. implies _ _ (r10 .1) z;
       slot-zeroizable = λ z. both z .0;
       slot-secret = λ z. both z .1;
-      tail-least = omega arith;
-      tail-most = room x four six;
     }
 
 map-parts : (s : List ℕ) → mapGood s ≡ true → (headerGood (headerOf s) (length s) ≡ true) × (allBelow (placeGood s) (headerOf s .partitions) ≡ true)

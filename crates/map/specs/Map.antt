@@ -51,11 +51,6 @@ secret x = eqb (x .flags / 2 % 2) 1
 abbrev pub slot : Entry → Bool
 slot x = eqb (x .flags / 4 % 2) 1
 
--- "A zeroizable partition ends with the indicator pair, before it the digest pair; any other ends with the digest pair": the cells
--- from the digest on
-abbrev pub tailOf : Entry → ℕ
-tailOf x = 2 + 2 * (x .flags % 2)
-
 -- the rules of the header, for an image of len bytes
 unfoldable pub headerGood : Header → (len : ℕ) → Bool
 headerGood h len =

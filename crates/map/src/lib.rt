@@ -3,8 +3,7 @@
 // are in `specs/Map`, what a good map gives its callers in `specs/Laws`. It rests on `endian` and
 // `laws`.
 ghost use mathlib.Core.Path.{_≡_};
-ghost use mathlib.Core.Bool.{true};
-ghost use Prim.Native.Nat.{_+_, _*_, _<_, _≤_};
+ghost use Prim.Native.Nat.{_+_, _*_, _^_, _<_, _≤_};
 ghost use lib.ListN.{length};
 ghost use Rattle.laws.specs.Below.{allBelow};
 ghost use Rattle.map.specs.Map.{headerOf, entryOf, endOf, zeroizable, secret, slot, headerGood, fillerGood, entryGood, endBefore, placeGood, mapGood};
@@ -25,9 +24,10 @@ pub struct Entry {
     pub flags: u8,
 }
 
-// The kinds that a rule names.
+// The kind that a secret partition has.
 const HARDWARE: u8 = 0;
 
+// The kind that is never zeroizable.
 const LIFE_CYCLE: u8 = 2;
 
 // The header of an image.
@@ -44,7 +44,7 @@ pub fn read_header(image: &[u8]) -> Header
 
 // Where entry `i` of an image starts.
 fn entry_place(image: &[u8], i: u32) -> usize
-    ensures { λ r. ⌜ (r ≡ headerOf (now (image .entry)) .entries + 8 * i) × (r < 34359803903) ⌝ }
+    ensures { λ r. ⌜ (r ≡ headerOf (now (image .entry)) .entries + 8 * i) × (r < 2 ^ 36) ⌝ }
 {
     let entries = endian::u16_at(image, 6);
     (entries as usize) + 8 * (i as usize)

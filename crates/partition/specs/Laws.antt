@@ -1,13 +1,18 @@
--- The laws of a partition's pairs and states: first what the proofs cite, then what callers use in place of the definitions' text.
+-- The laws of a partition's pairs and states: first what the proofs cite, then what callers cite in place of the definitions' text.
 -- Assumes nothing.
-use Prim.Native.Nat.{ℕ, _-_, _*_, _<_}
-use mathlib.Core.Path.{_≡_}
-use mathlib.Core.Bool.{Bool, true, false}
+use Prim.Native.Nat.{ℕ, _-_, _*_, _≤_, _<_}
+use mathlib.Core.Logic.{⊎-elim}
+use mathlib.Core.Path.{_≡_, refl, subst}
+use mathlib.Core.Bool.{Bool, true, false, cond}
 use mathlib.Core.List.{List}
 use native.Mathlib.Omega.{arith}
 use lib.ListN.{getD}
-use borrow.Author.Tests.{eq-eqb, ne-eqb, lt-ltb, le-ltb}
-use Rattle.partition.specs.Partition.{pairs, lowestPair, lowestShort, shortPairs, counted, noData, stateOf, zeroCell}
+use lib.Dec.{eqb, ltb}
+use borrow.Author.Tests.{eqb-true, eqb-false, le-leb, leb-true, ltb-true, not-true, eq-eqb, ne-eqb, lt-ltb, le-ltb}
+use Rattle.laws.specs.Tests.{and, decided}
+use Rattle.laws.specs.Below.{First, first-tells}
+use Rattle.partition.specs.declared.State.{State}
+use Rattle.partition.specs.Partition.{pairs, shortAt, lowestPair, lowestShort, shortPairs, counted, noData, stateOf, zeroCell}
 use Rattle.partition.specs.declared.Lowest.the-variants.{Cell, Nothing}
 use Rattle.partition.specs.declared.State.the-variants.{Erased, Torn, Blank, Programmed}
 
@@ -31,6 +36,20 @@ module _ (bound : ℕ) (part : List ℕ) where
 
 -- ---- the four states
 
+-- what the tests were, by the state that they give
+Tests : (c s d : Bool) → State → Type 0
+Tests c s d Erased = (c ≡ true) × (s ≡ true)
+Tests c s d Torn = (c ≡ true) × (s ≡ false)
+Tests c s d Blank = (c ≡ false) × (d ≡ true)
+Tests c s d Programmed = (c ≡ false) × (d ≡ false)
+
+tests : (c s d : Bool) → Tests c s d (cond c (cond s Erased Torn) (cond d Blank Programmed))
+unfolding Tests
+tests true true d = (refl, refl)
+tests true false d = (refl, refl)
+tests false s true = (refl, refl)
+tests false s false = (refl, refl)
+
 module _ (zeroizable : Bool) (bound : ℕ) (part : List ℕ) where
   pub erased-is : counted zeroizable bound part ≡ true → shortPairs bound part ≡ 0 → stateOf zeroizable bound part ≡ Erased
   unfolding stateOf
@@ -47,3 +66,60 @@ module _ (zeroizable : Bool) (bound : ℕ) (part : List ℕ) where
   pub programmed-is : counted zeroizable bound part ≡ false → noData zeroizable part ≡ false → stateOf zeroizable bound part ≡ Programmed
   unfolding stateOf
   programmed-is c d = simp (c, d)
+
+  -- and back: what each state tells
+  told : {state : State} → stateOf zeroizable bound part ≡ state → Tests (counted zeroizable bound part) (eqb (shortPairs bound part) 0) (noData zeroizable part) state
+  unfolding stateOf
+  told e = subst (Tests (counted zeroizable bound part) (eqb (shortPairs bound part) 0) (noData zeroizable part)) e (tests _ _ _)
+
+  pub erased-tells : stateOf zeroizable bound part ≡ Erased → (counted zeroizable bound part ≡ true) × (shortPairs bound part ≡ 0)
+  unfolding Tests
+  erased-tells e = let t = told e in (t .0, eqb-true _ _ (t .1))
+
+  pub torn-tells : stateOf zeroizable bound part ≡ Torn → (counted zeroizable bound part ≡ true) × (shortPairs bound part ≡ 0 → ⊥)
+  unfolding Tests
+  torn-tells e = let t = told e in (t .0, eqb-false _ _ (t .1))
+
+  pub blank-tells : stateOf zeroizable bound part ≡ Blank → (counted zeroizable bound part ≡ false) × (noData zeroizable part ≡ true)
+  unfolding Tests
+  blank-tells e = told e
+
+  pub programmed-tells : stateOf zeroizable bound part ≡ Programmed → (counted zeroizable bound part ≡ false) × (noData zeroizable part ≡ false)
+  unfolding Tests
+  programmed-tells e = told e
+
+  -- what it is to count as zeroized
+  pub counted-is : zeroizable ≡ true → 1 ≤ pairs part → shortAt bound part (pairs part - 1) ≡ false → counted zeroizable bound part ≡ true
+  unfolding counted
+  counted-is z p s = simp (z, le-leb _ _ p, s)
+
+  pub counted-tells : counted zeroizable bound part ≡ true → (zeroizable ≡ true) × (1 ≤ pairs part) × (shortAt bound part (pairs part - 1) ≡ false)
+  unfolding counted
+  counted-tells c =
+      let last = and _ _ c in
+      let first = and _ _ (last .0) in
+      (first .0, leb-true _ _ (first .1), not-true _ (last .1))
+
+-- ---- the lowest short pair
+
+-- the answer Cell k is pair j, which is short, and none before it is
+pub record LowestAt (bound : ℕ) (part : List ℕ) (k : ℕ) : Type 0 where
+  pub pair : ℕ
+  pub cell : k ≡ 2 * pair
+  pub within : pair < pairs part
+  pub short-there : shortAt bound part pair ≡ true
+  pub none-before : (i : ℕ) → i < pair → shortAt bound part i ≡ false
+
+module _ (bound : ℕ) (part : List ℕ) where
+  pub lowest-tells : (k : ℕ) → Cell k ≡ lowestShort bound part → LowestAt bound part k
+  unfolding lowestShort
+  lowest-tells k e =
+      let j = lowestPair bound part in
+      let w : First (shortAt bound part) 0 (pairs part) j = first-tells (shortAt bound part) 0 (pairs part) in
+      ⊎-elim
+      (λ (l : ltb j (pairs part) ≡ true).
+      let q : Cell k ≡ Cell (2 * j) = rw l at e in
+      let i = ltb-true _ _ l in
+      record { pair = j; cell = cc; within = i; short-there = w .at (omega arith); none-before = λ i a. w .before i (omega arith) a })
+      (λ (l : ltb j (pairs part) ≡ false). let q : Cell k ≡ Nothing = rw l at e in let z : _≡_ {A = ℕ} 0 1 = cc in absurd (omega arith))
+      (decided (ltb j (pairs part)))

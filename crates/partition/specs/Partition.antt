@@ -39,7 +39,8 @@ lowestShort bound part = cond (ltb (lowestPair bound part) (pairs part)) (Cell (
 unfoldable pub counted : (zeroizable : Bool) (bound : ℕ) (part : List ℕ) → Bool
 counted zeroizable bound part = zeroizable && leb 1 (pairs part) && not (shortAt bound part (pairs part - 1))
 
--- the cells from the digest on: digest and indicator of a zeroizable partition, the digest of any other
+-- "A zeroizable partition ends with the indicator pair, before it the digest pair; any other ends with the digest pair": the cells
+-- from the digest on
 abbrev pub tail : (zeroizable : Bool) → ℕ
 tail zeroizable = cond zeroizable 4 2
 

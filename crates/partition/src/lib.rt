@@ -81,8 +81,9 @@ pub fn is_counted(part: &[u32], bound: u64, zeroizable: bool) -> bool
     !short_at(part, pairs - 1, bound)
 }
 
-// The cells from the digest on.
-fn tail_cells(zeroizable: bool) -> usize
+// The cells from the digest on: digest and indicator of a zeroizable partition, the digest of any
+// other.
+pub fn tail_cells(zeroizable: bool) -> usize
     ensures { λ r. ⌜ (r ≡ tail zeroizable) × (r ≤ 4) ⌝ }
 {
     if zeroizable { 4 } else { 2 }

@@ -8,22 +8,27 @@ use mathlib.Core.List.{List}
 use native.Mathlib.Omega.{arith}
 use native.Mathlib.Nat.{eq-or-lt-of-le}
 use lib.Dec.{eqb, leb, ltb}
-use borrow.Author.Tests.{leb-true, ltb-true, ltb-false, eqb-true, eqb-false, eq-eqb, lt-ltb, le-ltb}
+use borrow.Author.Tests.{leb-true, ltb-true, ltb-false, eqb-true, eqb-false, lt-ltb, le-ltb}
 use Rattle.laws.specs.Tests.{decided, not-yes, and}
 use Rattle.laws.specs.Below.{first-tells, first-is}
 use Rattle.map.specs.declared.Header.{Header}
 use Rattle.map.specs.declared.Entry.{Entry}
-use Rattle.map.specs.Map.{headerOf, entryOf, endOf, software, zeroizable, mapGood, tailOf}
+use Rattle.map.specs.Map.{headerOf, entryOf, endOf, software, zeroizable, mapGood}
 use Rattle.fuse.specs.Fuse.{cellsIn}
+use Rattle.partition.specs.Partition.{tail}
 use Rattle.map.specs.Laws.{map-entry, map-order}
 use Rattle.word.specs.declared.Role.{Role}
 use Rattle.word.specs.declared.Role.the-variants.{Data, Digest, Indicator}
 use Rattle.word.specs.declared.Lookup.{Lookup}
 use Rattle.word.specs.declared.Lookup.the-variants.{Word, Nothing}
-use Rattle.word.specs.Word.{left, holds, wordIn, holdsAt, partitionOf, wordAt}
+use Rattle.word.specs.Word.{holds, wordBy, wordIn, holdsAt, partitionOf, wordAt}
 
 pub held : (x : Entry) (cell : ℕ) → holds x cell ≡ true → (x .first ≤ cell) × (cell < endOf x)
 held x cell h = let r = and (leb (x .first) cell) (ltb cell (endOf x)) h in (leb-true _ _ (r .0), ltb-true _ _ (r .1))
+
+pub word-by : (x : Entry) (i cell end last : ℕ) → end ≡ endOf x → last ≡ tail (zeroizable x) → wordIn x i cell ≡ wordBy (software x) last (end - cell) i cell
+unfolding wordIn
+word-by x i cell end last e t = rw (e, t)
 
 -- ---- the lookup, at the header, the number and the entry that were read
 
@@ -72,8 +77,8 @@ word-of s g i cell l h =
 
 -- where a word of each role lies in its partition
 abbrev pub Lies : Entry → (cell : ℕ) → Role → (wide : Bool) → Type 0
-Lies x cell Data wide = (cell + cellsIn wide + tailOf x ≤ endOf x) × (wide ≡ not (software x))
-Lies x cell Digest wide = (cell + tailOf x ≡ endOf x) × (wide ≡ true)
+Lies x cell Data wide = (cell + cellsIn wide + tail (zeroizable x) ≤ endOf x) × (wide ≡ not (software x))
+Lies x cell Digest wide = (cell + tail (zeroizable x) ≡ endOf x) × (wide ≡ true)
 Lies x cell Indicator wide = (cell + 2 ≡ endOf x) × (wide ≡ true) × (zeroizable x ≡ true)
 
 pub record Found (s : List ℕ) (cell i : ℕ) (role : Role) (wide : Bool) : Type 0 where
@@ -87,9 +92,9 @@ pub record Found (s : List ℕ) (cell i : ℕ) (role : Role) (wide : Bool) : Typ
 -- the tests on the way to each answer of `wordIn`
 module _ (x : Entry) (i cell : ℕ) where
   abbrev Tests : Lookup → Type 0
-  Tests (Word j Data wide) = (j ≡ i) × (tailOf x < left x cell) × (wide ≡ not (software x)) × (wide ≡ true → cell % 2 ≡ 0)
-  Tests (Word j Digest wide) = (j ≡ i) × (left x cell ≡ tailOf x) × (wide ≡ true)
-  Tests (Word j Indicator wide) = (j ≡ i) × (left x cell ≡ 2) × (left x cell < tailOf x) × (wide ≡ true)
+  Tests (Word j Data wide) = (j ≡ i) × (tail (zeroizable x) < endOf x - cell) × (wide ≡ not (software x)) × (wide ≡ true → cell % 2 ≡ 0)
+  Tests (Word j Digest wide) = (j ≡ i) × (endOf x - cell ≡ tail (zeroizable x)) × (wide ≡ true)
+  Tests (Word j Indicator wide) = (j ≡ i) × (endOf x - cell ≡ 2) × (endOf x - cell < tail (zeroizable x)) × (wide ≡ true)
   Tests Nothing = Unit {0}
 
   either : (b : Bool) (p q : Lookup) → (b ≡ true → Tests p) → (b ≡ false → Tests q) → Tests (cond b p q)
@@ -105,22 +110,40 @@ module _ (x : Entry) (i cell : ℕ) where
   data-word = cond (eqb (cell % 2) 0) (Word i Data true) Nothing
 
   abbrev last-word : Lookup
-  last-word = cond (eqb (left x cell) 2) (Word i Indicator true) Nothing
+  last-word = cond (eqb (endOf x - cell) 2) (Word i Indicator true) Nothing
 
   tests : Tests (wordIn x i cell)
   unfolding wordIn
   tests =
-      either (ltb (tailOf x) (left x cell)) (cond (software x) (Word i Data false) data-word) (cond (eqb (left x cell) (tailOf x)) (Word i Digest true) last-word)
+      either (ltb (tail (zeroizable x)) (endOf x - cell)) (cond (software x) (Word i Data false) data-word) (cond (eqb (endOf x - cell) (tail (zeroizable x))) (Word i Digest true) last-word)
       (λ a. either (software x) (Word i Data false) data-word
       (λ b. (refl, ltb-true _ _ a, sym (ap not b), λ n. absurd (false≢true n)))
       (λ b. either (eqb (cell % 2) 0) (Word i Data true) Nothing (λ d. (refl, ltb-true _ _ a, sym (ap not b), λ _. eqb-true _ _ d)) (λ d. tt)))
-      (λ a. either (eqb (left x cell) (tailOf x)) (Word i Digest true) last-word
+      (λ a. either (eqb (endOf x - cell) (tail (zeroizable x))) (Word i Digest true) last-word
       (λ b. (refl, eqb-true _ _ b, refl))
-      (λ b. either (eqb (left x cell) 2) (Word i Indicator true) Nothing
-      (λ d. (refl, eqb-true _ _ d, below (left x cell) (tailOf x) (ltb-false _ _ a) (eqb-false _ _ b), refl)) (λ d. tt)))
+      (λ b. either (eqb (endOf x - cell) 2) (Word i Indicator true) Nothing
+      (λ d. (refl, eqb-true _ _ d, below (endOf x - cell) (tail (zeroizable x)) (ltb-false _ _ a) (eqb-false _ _ b), refl)) (λ d. tt)))
     where
       below : (m n : ℕ) → m ≤ n → (m ≡ n → ⊥) → m < n
       below m n l e = ⊎-elim (λ q. absurd (e q)) (λ q. q) (eq-or-lt-of-le l)
+
+-- digest and indicator are pairs, and leave room for data
+record Ends (x : Entry) : Type 0 where
+  least : 2 ≤ tail (zeroizable x)
+  even : tail (zeroizable x) % 2 ≡ 0
+  room : tail (zeroizable x) + 2 ≤ x .n
+
+ends : (x : Entry) → 4 ≤ x .n → (zeroizable x ≡ true → 6 ≤ x .n) → Ends x
+ends x four six =
+    ⊎-elim
+    (λ (z : zeroizable x ≡ true). let n = six z in record { least = rw z (omega arith); even = rw z; room = rw z n })
+    (λ (z : zeroizable x ≡ false). record { least = rw z (omega arith); even = rw z; room = rw z four })
+    (decided (zeroizable x))
+
+-- only a zeroizable partition has more than a digest there
+indicator-only : (zeroizable : Bool) → 2 < tail zeroizable → zeroizable ≡ true
+indicator-only true l = refl
+indicator-only false l = absurd (omega arith)
 
 -- what the tests give in a good map
 module _ (s : List ℕ) (g : mapGood s ≡ true) (cell k : ℕ) (l : k < headerOf s .partitions) (h : holds (entryOf s k) cell ≡ true) where
@@ -130,21 +153,25 @@ module _ (s : List ℕ) (g : mapGood s ≡ true) (cell k : ℕ) (l : k < headerO
   place : (role : Role) (wide : Bool) → Tests x k cell (Word k role wide) → Found s cell k role wide
   place Data true t =
       let r = map-entry s g k l in
+      let e = ends x (r .n-least) (r .n-zeroizable) in
       let c = held x cell h in
       let even = t .3 refl in
       record { partition = l; low = c .0; high = omega arith; within = omega arith; even = λ _. even; lies = (omega arith, t .2) }
   place Data false t =
       let r = map-entry s g k l in
+      let e = ends x (r .n-least) (r .n-zeroizable) in
       let c = held x cell h in
       record { partition = l; low = c .0; high = omega arith; within = omega arith; even = λ n. absurd (false≢true n); lies = (omega arith, t .2) }
   place Digest wide t = rw (t .2) (
       let r = map-entry s g k l in
+      let e = ends x (r .n-least) (r .n-zeroizable) in
       let c = held x cell h in
       record { partition = l; low = c .0; high = omega arith; within = omega arith; even = λ _. omega arith; lies = (omega arith, refl) })
   place Indicator wide t = rw (t .3) (
       let r = map-entry s g k l in
+      let e = ends x (r .n-least) (r .n-zeroizable) in
       let c = held x cell h in
-      record { partition = l; low = c .0; high = omega arith; within = omega arith; even = λ _. omega arith; lies = (omega arith, refl, eq-eqb (x .flags % 2) 1 (omega arith)) })
+      record { partition = l; low = c .0; high = omega arith; within = omega arith; even = λ _. omega arith; lies = (omega arith, refl, indicator-only (zeroizable x) (omega arith)) })
 
   -- so at an answer that names some partition i, the partition is k
   at-answer : (i : ℕ) (role : Role) (wide : Bool) → Word i role wide ≡ wordIn x k cell → Found s cell i role wide

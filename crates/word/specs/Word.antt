@@ -4,27 +4,28 @@ use mathlib.Core.Bool.{Bool, true, false, cond, _&&_}
 use mathlib.Core.List.{List}
 use lib.Dec.{eqb, leb, ltb}
 use Rattle.laws.specs.Below.{firstBelow}
-use Rattle.map.specs.Map.{headerOf, entryOf, endOf, software, tailOf}
+use Rattle.map.specs.Map.{headerOf, entryOf, endOf, zeroizable, software}
 use Rattle.map.specs.declared.Entry.{Entry}
+use Rattle.partition.specs.Partition.{tail}
 use Rattle.word.specs.declared.Role.the-variants.{Data, Digest, Indicator}
 use Rattle.word.specs.declared.Lookup.{Lookup}
 use Rattle.word.specs.declared.Lookup.the-variants.{Word, Nothing}
-
--- the cells of a partition from `cell` on, itself included
-abbrev pub left : Entry → (cell : ℕ) → ℕ
-left x cell = endOf x - cell
 
 -- the cell lies in the partition
 abbrev pub holds : Entry → (cell : ℕ) → Bool
 holds x cell = leb (x .first) cell && ltb cell (endOf x)
 
 -- "A word is a pair in kinds 0 and 2; in kind 1 a data word is one cell, digest and indicator are pairs": the word that starts at a
--- cell of partition i, whose entry is x
+-- cell of partition i, where `left` cells of the partition are left and its last `tail` cells are not data
+abbrev pub wordBy : (software : Bool) (tail left i cell : ℕ) → Lookup
+wordBy software tail left i cell =
+    cond (ltb tail left)
+    (cond software (Word i Data false) (cond (eqb (cell % 2) 0) (Word i Data true) Nothing))
+    (cond (eqb left tail) (Word i Digest true) (cond (eqb left 2) (Word i Indicator true) Nothing))
+
+-- the word that starts at a cell of partition i, whose entry is x
 unfoldable pub wordIn : Entry → (i cell : ℕ) → Lookup
-wordIn x i cell =
-    cond (ltb (tailOf x) (left x cell))
-    (cond (software x) (Word i Data false) (cond (eqb (cell % 2) 0) (Word i Data true) Nothing))
-    (cond (eqb (left x cell) (tailOf x)) (Word i Digest true) (cond (eqb (left x cell) 2) (Word i Indicator true) Nothing))
+wordIn x i cell = wordBy (software x) (tail (zeroizable x)) (endOf x - cell) i cell
 
 -- partition i of the image holds the cell
 unfoldable pub holdsAt : (image : List ℕ) (cell i : ℕ) → Bool

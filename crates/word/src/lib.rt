@@ -1,6 +1,7 @@
 // The words of a map: which word starts at a cell of the whole array. Every function answers for any
 // bytes and any cell; in a good map each word lies in the one partition that the answer names. The
-// definitions are in `specs/Word`, the laws for callers in `specs/Laws`. It rests on `map`.
+// definitions are in `specs/Word`, the laws for callers in `specs/Laws`. It rests on `map`
+// and on `partition` for where data end.
 use map::Entry;
 ghost use mathlib.Core.Path.{_≡_};
 ghost use Prim.Native.Nat.{_<_};
@@ -59,7 +60,7 @@ fn word_in(x: Entry, i: u32, cell: u32) -> Lookup
     ensures { λ r. ⌜ r ≡ wordIn x i cell ⌝ }
 {
     let left = map::end_of(x) - (cell as usize);
-    let tail = 2 + 2 * ((x.flags % 2) as usize);
+    let tail = partition::tail_cells(map::is_zeroizable(x));
     if tail < left {
         if x.kind == SOFTWARE {
             return Lookup::Word {
