@@ -1,24 +1,25 @@
 -- What the writers of the printed lines cite: a number's digits are put as its decimal, and each piece has a most length. Assumes nothing.
-use Prim.Native.Nat.{ℕ, suc, _+_, _-_, _*_, _≤_, _<_}
+use Prim.Native.Nat.{ℕ, suc, _+_, _-_, _*_, _/_, _≤_, _<_}
 use mathlib.Core.Path.{_≡_, refl, ap, _∙_}
 use mathlib.Core.Bool.{Bool, true, false, cond, not}
 use mathlib.Core.List.{List, _++_}
 use native.Mathlib.Omega.{arith}
 use native.Mathlib.Numerals.{add-one}
 use native.Mathlib.Nat.{zero-add}
-use lib.ListN.{length, take, drop, getD, set}
+use lib.ListN.{length, take, drop, getD, set, length-take}
 use lib.Seq.{take-at, drop-cons, set-at, append-snoc}
 use lib.Dec.{eqb, ltb}
 use borrow.Author.Tests.{lt-ltb, le-ltb, eq-eqb, ne-eqb, ltb-false, eqb-true, not-false}
-use Rattle.laws.specs.Below.{joinBelow, join-step, join-ones}
+use Rattle.laws.specs.Below.{joinBelow, join-step, join-ones, count-le}
 use Rattle.endian.specs.Endian.{u32At}
 use Rattle.map.specs.declared.Header.{Header}
 use Rattle.map.specs.declared.Entry.{Entry}
-use Rattle.map.specs.Laws.{map-header}
+use Rattle.map.specs.Laws.{map-header, map-entry}
 use Rattle.partition.specs.declared.Survey.{Survey}
+use Rattle.partition.specs.Partition.{shortAt}
 use Rattle.drive.specs.declared.ActiveSlot.{ActiveSlot}
 use Rattle.drive.specs.Drive.{surveyAt, activeSlot, slotNumber, available}
-use Rattle.map.specs.Map.{headerOf, entryOf, mapGood}
+use Rattle.map.specs.Map.{headerOf, entryOf, endOf, mapGood}
 use Rattle.text.specs.Text.{text, decimal}
 use Rattle.text.specs.Put.{Put}
 use Rattle.report.specs.declared.Reading.{Reading}
@@ -154,3 +155,15 @@ pub printed-by : (input before after : List ℕ) (r : ℕ) (t : Reading) → rea
 printed-by input before after r t e p =
     let q : Put 0 (statusOf input) before after r = rw e p in
     record { count = omega (arith, q .is-next); bytes = q .bytes ∙ ap (λ (k : ℕ). statusOf input ++ drop k before) (zero-add (length (statusOf input))); fits = omega (arith, q .is-next, q .room, q .same) }
+
+-- ---- every number of the table is below 10,000, so that its decimal reads back (`text`, `decimal-reads`)
+
+pub small-numbers : (image cells : List ℕ) → mapGood image ≡ true → (i : ℕ) → i < headerOf image .partitions → (i < 10000) × (entryOf image i .n < 10000) × (surveyAt image cells i .short < 10000)
+unfolding surveyAt
+small-numbers image cells g i l =
+    let h = map-header image g in
+    let x = map-entry image g i l in
+    let part = take (endOf (entryOf image i) - entryOf image i .first) (drop (entryOf image i .first) cells) in
+    let long : length part ≤ entryOf image i .n = simp length-take (omega arith) in
+    let short = count-le (shortAt (headerOf image .bound) part) (length part / 2) in
+    (omega arith, omega arith, omega arith)
