@@ -5,6 +5,7 @@ use mathlib.Core.Bool.{true, false}
 use mathlib.Core.List.{List, [], _∷_, _++_, map}
 use lib.ListN.{replicate}
 use lib.Count.{onesIn}
+use Rattle.laws.specs.Tests.{every}
 use Rattle.laws.specs.Below.{allBelow, countBelow, firstFrom}
 use Rattle.endian.specs.Endian.{u16At}
 use Rattle.map.specs.Map.{headerGood, fillerGood, entryGood, placeGood, mapGood}
@@ -50,11 +51,11 @@ none = refl
 refusals :
     slotAnswerOf [] [] [] ∷ slotAnswerOf (one (entry 0 6 0 3)) (replicate 11 0) (replicate 12 0) ∷ slotAnswerOf (one (entry 0 6 0 3)) (replicate 12 0) (replicate 13 0) ∷ []
     ≡ Refused 1 ∷ Refused 2 ∷ Refused 2 ∷ []
-unfolding checkOf wholeArrays mapGood headerGood fillerGood entryGood placeGood allBelow u16At
+unfolding checkOf wholeArrays mapGood every headerGood fillerGood entryGood placeGood allBelow u16At
 refusals = refl
 
 no-partition :
     surveyedOf (one (entry 0 6 0 3)) (replicate 12 0) (replicate 12 0) 1 ∷ surveyedOf (one (entry 0 6 0 3)) [] [] 1 ∷ []
     ≡ NotSurveyed 7 ∷ NotSurveyed 2 ∷ []
-unfolding checkOf wholeArrays mapGood headerGood fillerGood entryGood placeGood allBelow u16At
+unfolding checkOf wholeArrays mapGood every headerGood fillerGood entryGood placeGood allBelow u16At
 no-partition = refl

@@ -1,7 +1,10 @@
 -- What a Boolean test tells, once for every layer. Assumes nothing.
+use Prim.Native.Nat.{ℕ, zero, suc}
 use mathlib.Core.Path.{_≡_, refl, sym}
 use mathlib.Core.Logic.{_⊎_, inl, inr}
+use mathlib.Core.List.{List, [], _∷_}
 use mathlib.Core.Bool.{Bool, true, false, _&&_, _||_, not, false≢true}
+use lib.ListN.{getD}
 
 -- a test passes or fails
 pub decided : (b : Bool) → (b ≡ true) ⊎ (b ≡ false)
@@ -28,3 +31,28 @@ pub not-both : (a b : Bool) → not (a && b) ≡ true → a ≡ true → b ≡ f
 not-both true true e h = sym e
 not-both true false e h = refl
 not-both false b e h = absurd (false≢true h)
+
+-- ---- a list of tests
+
+-- b and all of a list, from the left, as code joins tests by `&`
+abbrev chain : Bool → List Bool → Bool
+chain b [] = b
+chain b (c ∷ cs) = chain (b && c) cs
+
+-- every test of a list passes
+unfoldable pub every : List Bool → Bool
+every l = chain true l
+
+chain-first : (b : Bool) (l : List Bool) → chain b l ≡ true → b ≡ true
+chain-first b [] g = g
+chain-first b (c ∷ cs) g = and b c (chain-first (b && c) cs g) .0
+
+chain-at : (b : Bool) (l : List Bool) → chain b l ≡ true → (k : ℕ) → getD l k true ≡ true
+chain-at b [] g k = refl
+chain-at b (c ∷ cs) g zero = and b c (chain-first (b && c) cs g) .1
+chain-at b (c ∷ cs) g (suc k) = chain-at (b && c) cs g k
+
+-- so test k does
+pub every-at : (l : List Bool) → every l ≡ true → (k : ℕ) → getD l k true ≡ true
+unfolding every
+every-at l g k = chain-at true l g k

@@ -10,7 +10,7 @@ use native.Mathlib.Nat.{not-suc-le-zero, eq-or-lt-of-le, le-of-suc-le-suc}
 use lib.ListN.{length}
 use lib.Dec.{ltb}
 use borrow.Author.Tests.{leb-true, eqb-true, le-ltb, ne-eqb}
-use Rattle.laws.specs.Tests.{and, implies, not-both}
+use Rattle.laws.specs.Tests.{and, implies, not-both, every-at}
 use Rattle.laws.specs.Below.{allBelow, all-at}
 use Rattle.endian.specs.Endian.{byteAt, u16At}
 use Rattle.map.specs.declared.Header.{Header}
@@ -63,24 +63,17 @@ pub record HeaderRules (h : Header) (len : ℕ) : Type 0 where
 pub header-rules : (h : Header) (len : ℕ) → headerGood h len ≡ true → HeaderRules h len
 unfolding headerGood
 header-rules h len g =
-    let r8 = and _ _ g in
-    let r7 = and _ _ (r8 .0) in
-    let r6 = and _ _ (r7 .0) in
-    let r5 = and _ _ (r6 .0) in
-    let r4 = and _ _ (r5 .0) in
-    let r3 = and _ _ (r4 .0) in
-    let r2 = and _ _ (r3 .0) in
-    let r1 = and _ _ (r2 .0) in
+    let rule = every-at _ g in
     record {
-      partitions-least = leb-true _ _ (r1 .0);
-      partitions-most = leb-true _ _ (r1 .1);
-      cells-least = leb-true _ _ (r2 .1);
-      cells-most = leb-true _ _ (r3 .1);
-      bound-least = leb-true _ _ (r4 .1);
-      bound-most = leb-true _ _ (r5 .1);
-      entries-least = leb-true _ _ (r6 .1);
-      entries-most = leb-true _ _ (r7 .1);
-      long = eqb-true _ _ (r8 .1);
+      partitions-least = leb-true _ _ (rule 0);
+      partitions-most = leb-true _ _ (rule 1);
+      cells-least = leb-true _ _ (rule 2);
+      cells-most = leb-true _ _ (rule 3);
+      bound-least = leb-true _ _ (rule 4);
+      bound-most = leb-true _ _ (rule 5);
+      entries-least = leb-true _ _ (rule 6);
+      entries-most = leb-true _ _ (rule 7);
+      long = eqb-true _ _ (rule 8);
     }
 
 pub record EntryRules (before cells : ℕ) (x : Entry) : Type 0 where
@@ -100,31 +93,19 @@ pub record EntryRules (before cells : ℕ) (x : Entry) : Type 0 where
 pub entry-rules : (before cells : ℕ) (x : Entry) (spare : ℕ) → entryGood before cells x spare ≡ true → EntryRules before cells x
 unfolding entryGood
 entry-rules before cells x spare g =
-    let r11 = and _ _ g in
-    let r10 = and _ _ (r11 .0) in
-    let r9 = and _ _ (r10 .0) in
-    let r8 = and _ _ (r9 .0) in
-    let r7 = and _ _ (r8 .0) in
-    let r6 = and _ _ (r7 .0) in
-    let r5 = and _ _ (r6 .0) in
-    let r4 = and _ _ (r5 .0) in
-    let r3 = and _ _ (r4 .0) in
-    let r2 = and _ _ (r3 .0) in
-    let r1 = and _ _ (r2 .0) in
-    let four : 4 ≤ x .n = leb-true _ _ (r5 .1) in
-    let six : zeroizable x ≡ true → 6 ≤ x .n = λ z. leb-true _ _ (implies _ _ (r6 .1) z) in
-    let both : slot x ≡ true → (zeroizable x ≡ true) × (secret x ≡ true) = λ z. and (zeroizable x) (secret x) (implies _ _ (r11 .1) z) in
+    let rule = every-at _ g in
+    let both : slot x ≡ true → (zeroizable x ≡ true) × (secret x ≡ true) = λ z. and (zeroizable x) (secret x) (implies _ _ (rule 11) z) in
     record {
-      kind-known = leb-true _ _ (r1 .0);
-      flags-known = leb-true _ _ (r1 .1);
-      first-even = eqb-true _ _ (r3 .1);
-      n-even = eqb-true _ _ (r4 .1);
-      n-least = four;
-      n-zeroizable = six;
-      after = leb-true _ _ (r7 .1);
-      within = leb-true _ _ (r8 .1);
-      life-cycle = λ k. not-both _ _ (r9 .1) k;
-      secret-hardware = λ z. implies _ _ (r10 .1) z;
+      kind-known = leb-true _ _ (rule 0);
+      flags-known = leb-true _ _ (rule 1);
+      first-even = eqb-true _ _ (rule 3);
+      n-even = eqb-true _ _ (rule 4);
+      n-least = leb-true _ _ (rule 5);
+      n-zeroizable = λ z. leb-true _ _ (implies _ _ (rule 6) z);
+      after = leb-true _ _ (rule 7);
+      within = leb-true _ _ (rule 8);
+      life-cycle = λ k. not-both _ _ (rule 9) k;
+      secret-hardware = λ z. implies _ _ (rule 10) z;
       slot-zeroizable = λ z. both z .0;
       slot-secret = λ z. both z .1;
     }

@@ -2,10 +2,11 @@
 -- Assumes nothing.
 use Prim.Native.Nat.{ℕ, _+_, _-_, _*_, _/_, _%_}
 use mathlib.Core.Bool.{Bool, cond, _&&_, _||_, not}
-use mathlib.Core.List.{List}
+use mathlib.Core.List.{List, [], _∷_}
 use lib.ListN.{length}
 use lib.Dec.{eqb, leb, ltb}
 use Rattle.endian.specs.Endian.{byteAt, u16At}
+use Rattle.laws.specs.Tests.{every}
 use Rattle.laws.specs.Below.{allBelow}
 use Rattle.map.specs.declared.Header.{Header}
 use Rattle.map.specs.declared.Entry.{Entry}
@@ -54,16 +55,22 @@ slot x = eqb (x .flags / 4 % 2) 1
 -- the rules of the header, for an image of len bytes
 unfoldable pub headerGood : Header → (len : ℕ) → Bool
 headerGood h len =
+    every (
     -- P is 1 to 16
-    leb 1 (h .partitions) && leb (h .partitions) 16
+    leb 1 (h .partitions)
+    ∷ leb (h .partitions) 16
     -- C is 4 to 2,048
-    && leb 4 (h .cells) && leb (h .cells) 2048
+    ∷ leb 4 (h .cells)
+    ∷ leb (h .cells) 2048
     -- B is 33 to 64
-    && leb 33 (h .bound) && leb (h .bound) 64
+    ∷ leb 33 (h .bound)
+    ∷ leb (h .bound) 64
     -- E is 8 to 128
-    && leb 8 (h .entries) && leb (h .entries) 128
+    ∷ leb 8 (h .entries)
+    ∷ leb (h .entries) 128
     -- "The image is exactly E + 8P long"
-    && eqb len (h .entries + 8 * h .partitions)
+    ∷ eqb len (h .entries + 8 * h .partitions)
+    ∷ [])
 
 -- "Bytes 8 up to E are zero": byte k is one of the header's eight or zero
 unfoldable pub fillerGood : (image : List ℕ) (k : ℕ) → Bool
@@ -72,20 +79,29 @@ fillerGood s k = ltb k 8 || eqb (byteAt s k) 0
 -- the rules of one entry x, where the entry before it ends at `before`, the array has `cells` cells and x's last two bytes read `spare`
 unfoldable pub entryGood : (before cells : ℕ) → Entry → (spare : ℕ) → Bool
 entryGood before cells x spare =
-    -- kind is 0, 1 or 2; higher bits of flags are zero; two zero bytes
-    leb (x .kind) 2 && leb (x .flags) 7 && eqb spare 0
+    every (
+    -- kind is 0, 1 or 2
+    leb (x .kind) 2
+    -- higher bits of flags are zero
+    ∷ leb (x .flags) 7
+    -- "two zero bytes"
+    ∷ eqb spare 0
     -- "First and n are even"
-    && eqb (x .first % 2) 0 && eqb (x .n % 2) 0
+    ∷ eqb (x .first % 2) 0
+    ∷ eqb (x .n % 2) 0
     -- "n is at least 4, at least 6 if zeroizable"
-    && leb 4 (x .n) && (not (zeroizable x) || leb 6 (x .n))
+    ∷ leb 4 (x .n)
+    ∷ (not (zeroizable x) || leb 6 (x .n))
     -- "Entries ascend without overlap and end by C; gaps are allowed"
-    && leb before (x .first) && leb (endOf x) cells
+    ∷ leb before (x .first)
+    ∷ leb (endOf x) cells
     -- "Life cycle is never zeroizable"
-    && not (lifeCycle x && zeroizable x)
+    ∷ not (lifeCycle x && zeroizable x)
     -- "Secret needs kind 0"
-    && (not (secret x) || hardware x)
+    ∷ (not (secret x) || hardware x)
     -- "a slot must be zeroizable and secret"
-    && (not (slot x) || zeroizable x && secret x)
+    ∷ (not (slot x) || zeroizable x && secret x)
+    ∷ [])
 
 -- where the entry before entry i ends: 0 before the first
 abbrev pub endBefore : (image : List ℕ) (i : ℕ) → ℕ

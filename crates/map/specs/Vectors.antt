@@ -5,6 +5,7 @@ use mathlib.Core.Path.{_≡_, refl}
 use mathlib.Core.Bool.{true, false}
 use mathlib.Core.List.{List, [], _∷_, _++_, map}
 use lib.ListN.{replicate}
+use Rattle.laws.specs.Tests.{every}
 use Rattle.laws.specs.Below.{allBelow}
 use Rattle.endian.specs.Endian.{u16At}
 use Rattle.map.specs.Map.{headerGood, fillerGood, entryGood, placeGood, mapGood}
@@ -76,5 +77,5 @@ cut : List (List ℕ)
 cut = [] ∷ (2 ∷ []) ∷ (2 ∷ 0 ∷ 12 ∷ 0 ∷ 60 ∷ 0 ∷ 8 ∷ []) ∷ image 2 12 60 8 [] [] ∷ []
 
 rules : (map mapGood broken ≡ replicate 27 false) × (map mapGood edges ≡ replicate 12 true) × (map mapGood cut ≡ replicate 4 false)
-unfolding broken edges cut mapGood headerGood fillerGood entryGood placeGood allBelow u16At
+unfolding broken edges cut mapGood every headerGood fillerGood entryGood placeGood allBelow u16At
 rules = (refl, refl, refl)

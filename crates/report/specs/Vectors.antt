@@ -4,6 +4,7 @@ use mathlib.Core.Path.{_≡_, refl}
 use mathlib.Core.List.{List, [], _∷_, _++_, map}
 use lib.ListN.{take, replicate}
 use lib.Count.{onesIn}
+use Rattle.laws.specs.Tests.{every}
 use Rattle.laws.specs.Below.{allBelow, countBelow, firstFrom, joinBelow}
 use Rattle.endian.specs.Endian.{u16At, u32At}
 use Rattle.map.specs.Map.{headerGood, fillerGood, entryGood, placeGood, mapGood}
@@ -18,7 +19,7 @@ abbrev small : List ℕ
 small = (24 ∷ 0 ∷ image 2 12 60 8 [] two) ++ (1 ∷ replicate 95 0)
 
 small-drive : statusOf small ≡ text "part cells state short\n0 6 programmed 3\n1 6 blank 3\nhek 0\n"
-unfolding readingOf tableOf lineAt lineOf hekLine numberAt decimal surveyAt slotAt openSlot activeSlot stateOf counted shortAt zeroCell mapGood headerGood fillerGood entryGood placeGood allBelow countBelow firstFrom joinBelow u16At u32At onesIn
+unfolding readingOf tableOf lineAt lineOf hekLine numberAt decimal surveyAt slotAt openSlot activeSlot stateOf counted shortAt zeroCell mapGood every headerGood fillerGood entryGood placeGood allBelow countBelow firstFrom joinBelow u16At u32At onesIn
 small-drive = refl
 
 -- the length cut short; over 256, though nothing follows; the map cut short; a bad map, though the cells are cut short; the marks cut
@@ -26,5 +27,5 @@ small-drive = refl
 refusals :
     map statusOf ((24 ∷ []) ∷ (1 ∷ 1 ∷ []) ∷ take 25 small ∷ (8 ∷ 0 ∷ replicate 8 0) ∷ take 121 small ∷ (small ++ (0 ∷ [])) ∷ [])
     ≡ text "refused 2\n" ∷ text "refused 1\n" ∷ text "refused 2\n" ∷ text "refused 1\n" ∷ text "refused 2\n" ∷ text "refused 2\n" ∷ []
-unfolding readingOf decimal mapGood headerGood fillerGood entryGood placeGood allBelow u16At
+unfolding readingOf decimal mapGood every headerGood fillerGood entryGood placeGood allBelow u16At
 refusals = refl

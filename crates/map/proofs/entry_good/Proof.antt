@@ -1,5 +1,6 @@
 -- `map::entry_good` meets its contract: the code is the chain of rules itself, with the flags named. Assumes nothing.
 use borrow.Author.Needs.{needs}
+use Rattle.laws.specs.Tests.{every}
 use Rattle.map.specs.Map.{entryGood}
 use Rattle.map.proofs.entry_good.Statement.{statement}
 use Rattle.map.proofs.entry_good.Tie as tie
@@ -20,7 +21,7 @@ cast-result : tie.Need-cast-result
 cast-result c = search needs
 
 returns : tie.Need-returns
-unfolding entryGood
+unfolding entryGood every
 returns c = cc
 
 pub entry-good-spec : {M : Type 1} → statement M

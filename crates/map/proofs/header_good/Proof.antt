@@ -1,6 +1,7 @@
 -- `map::header_good` meets its contract: the code is the chain of rules itself. Assumes nothing.
 use mathlib.Core.Path.{refl}
 use borrow.Author.Needs.{needs}
+use Rattle.laws.specs.Tests.{every}
 use Rattle.map.specs.Map.{headerGood}
 use Rattle.map.proofs.header_good.Statement.{statement}
 use Rattle.map.proofs.header_good.Tie as tie
@@ -18,7 +19,7 @@ add-result : tie.Need-add-result
 add-result c = search needs
 
 returns : tie.Need-returns
-unfolding headerGood
+unfolding headerGood every
 returns c = refl
 
 pub header-good-spec : {M : Type 1} → statement M
