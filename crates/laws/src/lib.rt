@@ -1,3 +1,5 @@
-// Definitions and theorems that every layer shares; no code. `specs/Below` has tests of numbers
-// below a bound (all of them, how many, the lowest), `specs/Tests` what a Boolean test tells,
-// `specs/Bits` the digits of numbers over any width. It rests on the language's library alone.
+// Definitions and theorems that every layer shares; no code. `specs/Below` says things of the
+// numbers below a bound (a test holds at all of them, at how many, which is the lowest; lists
+// joined), `specs/Tests` what Boolean tests and lists of them tell, `specs/Bits` the digits of
+// numbers and their order over any width, `specs/Ones` the number of ones. It rests on the
+// language's library alone.
