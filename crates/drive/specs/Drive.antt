@@ -69,6 +69,7 @@ slotIn Programmed i = ProgrammedSlot i
 unfoldable pub slotAt : (image cells : List ℕ) (i : ℕ) → ActiveSlot
 slotAt image cells i = cond (slot (entryOf image i)) (slotIn (surveyAt image cells i .state) i) Absent
 
+-- there is an active slot
 abbrev pub present : ActiveSlot → Bool
 present Absent = false
 present (TornSlot i) = true

@@ -46,7 +46,7 @@ arrays-are image cells marks header e = rw e
 pub record Judged (image cells marks : List ℕ) (header : Header) : Type 0 where
   pub whole : Whole image cells
   pub marks-long : length marks ≡ headerOf image .cells
-  pub is : header ≡ headerOf image
+  pub header-is : header ≡ headerOf image
 
 judged-by : (good arrays : Bool) (header h : Header) → Ready h ≡ cond (not good) (Refused 1) (cond (not arrays) (Refused 2) (Ready header)) → (good ≡ true) × (arrays ≡ true) × (h ≡ header)
 judged-by true true header h e = (refl, refl, cc)
@@ -58,7 +58,7 @@ unfolding checkOf wholeArrays
 judged image cells marks header e =
     let told = judged-by _ _ _ _ e in
     let arrays = and (eqb (length cells) (headerOf image .cells)) (eqb (length marks) (headerOf image .cells)) (told .1) in
-    record { whole = record { good = told .0; long = eqb-true _ _ (arrays .0) }; marks-long = eqb-true _ _ (arrays .1); is = told .2 }
+    record { whole = record { good = told .0; long = eqb-true _ _ (arrays .0) }; marks-long = eqb-true _ _ (arrays .1); header-is = told .2 }
 
 -- ---- the active slot, by where a walk over the slots ended
 
@@ -101,7 +101,7 @@ pub record Available (image cells : List ℕ) : Type 0 where
   pub within : partition < headerOf image .partitions
   pub is-slot : slot (entryOf image partition) ≡ true
   pub programmed : surveyAt image cells partition .state ≡ Programmed
-  pub is : activeSlot image cells ≡ ProgrammedSlot partition
+  pub answer : activeSlot image cells ≡ ProgrammedSlot partition
   -- every slot before it is erased
   pub before : (j : ℕ) → j < partition → openSlot image cells j ≡ false
 
@@ -123,7 +123,7 @@ available-tells image cells e =
     let within : i < p = ltb-true i p l in
     let here : activeSlot image cells ≡ slotAt image cells i = active-at image cells i within refl in
     let t = only-programmed (slot (entryOf image i)) (surveyAt image cells i .state) i (rw here at e) in
-    record { partition = i; within = within; is-slot = t .0; programmed = t .1; is = here ∙ rw (t .0, t .1); before = λ j q. w .before j (omega arith) q })
+    record { partition = i; within = within; is-slot = t .0; programmed = t .1; answer = here ∙ rw (t .0, t .1); before = λ j q. w .before j (omega arith) q })
     (λ (l : ltb i p ≡ false).
     let le : p ≤ i = ltb-false i p l in
     let none : activeSlot image cells ≡ Absent = active-none image cells (omega (arith, w .most)) in

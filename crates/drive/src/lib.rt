@@ -1,13 +1,13 @@
 // A whole drive: map image, fuse cells and stuck marks together. The refusals that every call
 // shares, a partition's state, and the active slot with its HEK. The public functions with three
 // slices are entry points: they answer for any bytes and any lengths. The definitions are in
-// `specs/Drive`, the laws for callers in `specs/Laws`. It rests on `map` and `partition`.
+// `specs/Drive`, the laws for callers in `specs/Laws`. It rests on `map` and `partition`, and below
+// them on `endian` and `laws`.
 use map::Header;
 use partition::State;
 use partition::Survey;
 ghost use mathlib.Core.Path.{_≡_};
 ghost use Prim.Native.Nat.{_<_};
-ghost use lib.ListN.{length};
 ghost use Rattle.map.specs.Map.{headerOf};
 ghost use Rattle.drive.specs.Drive.{Whole, checkOf, surveyAt, surveyedOf, slotAt, present, slotNumber, available, activeSlot, slotAnswerOf};
 

@@ -5,7 +5,7 @@
 --     absorbs     all ones burned into any c with s ⊆ c ⊆ s ∪ ¬stuck leave what all ones burned into s leave
 --     fits        a cell stays a cell of 32 fuses
 --     ones-*      how many are set: the language's count, at most 64, monotone; so a pair only ever stops being short
-use Prim.Native.Nat.{ℕ, _+_, _-_, _*_, _/_, _%_, _^_, _≤_, _<_}
+use Prim.Native.Nat.{ℕ, _+_, _/_, _%_, _^_, _≤_, _<_}
 use mathlib.Core.Path.{_≡_, sym, ap, _∙_}
 use mathlib.Core.Bool.{Bool, true, false}
 use mathlib.Core.List.{List}
@@ -39,12 +39,12 @@ module _ (stuck : ℕ) where
   fits {x} v h = or-lt 32 x (bitAnd v (free stuck)) h (lt-of-le-of-lt (and-le-r v (free stuck)) (ones-sub-lt 32 stuck))
 
   -- a burn of all ones sets every fuse that is not stuck
-  pub all : (x : ℕ) → burn x allSet stuck ≡ bitOr x (free stuck)
-  all x = ap (bitOr x) (full-and 32 (ones-sub-lt 32 stuck))
+  pub burn-all : (x : ℕ) → burn x allSet stuck ≡ bitOr x (free stuck)
+  burn-all x = ap (bitOr x) (full-and 32 (ones-sub-lt 32 stuck))
 
   pub absorbs : {s c : ℕ} → s ⊆ c → c ⊆ bitOr s (free stuck) → burn c allSet stuck ≡ burn s allSet stuck
   absorbs {s} {c} p q =
-      all c ∙ sub-antisym (or-lub q (sub-or-r s (free stuck))) (or-mono p (sub-refl (free stuck))) ∙ sym (all s)
+      burn-all c ∙ sub-antisym (or-lub q (sub-or-r s (free stuck))) (or-mono p (sub-refl (free stuck))) ∙ sym (burn-all s)
 
 -- a burn of a pair is the burn of its low cell and then of its high cell
 pub burn-pair : (marks : List ℕ) (k v : ℕ) (cells : List ℕ) {mid after : List ℕ} → mid ≡ burnCell marks k (v % 2 ^ 32) cells → after ≡ burnCell marks (k + 1) (v / 2 ^ 32) mid → after ≡ burnWord marks k true v cells

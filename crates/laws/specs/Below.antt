@@ -1,13 +1,13 @@
 -- What is said of the numbers below n: that a test f holds at all of them, at how many it holds, which is the lowest; and the lists
 -- that f gives for them, one after the other. Every loop here is one of these four, and cites its laws. Assumes nothing.
-use Prim.Native.Nat.{ℕ, zero, suc, _+_, _-_, _*_, _≤_, _<_}
+use Prim.Native.Nat.{ℕ, zero, suc, _+_, _-_, _≤_, _<_}
 use mathlib.Core.Path.{_≡_, refl, sym, _∙_}
 use mathlib.Core.List.{List, [], _∷_, _++_}
-use mathlib.Core.Logic.{_⊎_, ⊎-elim}
+use mathlib.Core.Logic.{⊎-elim}
 use mathlib.Core.Bool.{Bool, true, false, cond, _&&_, false≢true}
 use native.Mathlib.Omega.{arith}
 use native.Mathlib.Numerals.{add-one}
-use native.Mathlib.Nat.{not-suc-le-zero, eq-or-lt-of-le, le-of-suc-le-suc, sub-zero, suc-mul}
+use native.Mathlib.Nat.{not-suc-le-zero, eq-or-lt-of-le, le-of-suc-le-suc, sub-zero}
 use lib.ListN.{length, length-append}
 use lib.Dec.{ltb}
 use borrow.Author.Tests.{ltb-true, ltb-false}
@@ -72,6 +72,23 @@ pub count-le : (f : ℕ → Bool) (n : ℕ) → countBelow f n ≤ n
 unfolding countBelow
 count-le f zero = omega arith
 count-le f (suc n) = omega (arith, count-le f n, tally-le (f n))
+
+tally-none : (t : Bool) → tally t ≡ 0 → t ≡ false
+tally-none true e = absurd (omega arith)
+tally-none false e = refl
+
+-- a count of 0: the test holds at none of them
+pub count-none : (f : ℕ → Bool) (n : ℕ) → countBelow f n ≡ 0 → (k : ℕ) → k < n → f k ≡ false
+unfolding countBelow
+count-none f zero c k l = absurd (not-suc-le-zero l)
+count-none f (suc n) c k l =
+    ⊎-elim (λ (e : k ≡ n). rw e (tally-none (f n) (omega arith))) (λ (h : k < n). count-none f n (omega arith) k h) (eq-or-lt-of-le (le-of-suc-le-suc l))
+
+-- and back
+pub none-count : (f : ℕ → Bool) (n : ℕ) → ((k : ℕ) → k < n → f k ≡ false) → countBelow f n ≡ 0
+unfolding countBelow
+none-count f zero h = refl
+none-count f (suc n) h = let here = h n (omega arith) in rw here (omega (arith, none-count f n (λ k l. h k (omega arith))))
 
 -- ---- the lowest: a loop that has passed the numbers below i searches the p - i that are left
 
@@ -143,12 +160,6 @@ first-is f n k l h o =
 pub join-step : (f : ℕ → List ℕ) (n : ℕ) → joinBelow f (n + 1) ≡ joinBelow f n ++ f n
 unfolding joinBelow
 join-step f n = rw add-one
-
--- lists of at most k numbers
-pub join-most : (f : ℕ → List ℕ) (k : ℕ) → ((i : ℕ) → length (f i) ≤ k) → (n : ℕ) → length (joinBelow f n) ≤ n * k
-unfolding joinBelow
-join-most f k h zero = omega arith
-join-most f k h (suc n) = simp (length-append, suc-mul) (omega (arith, join-most f k h n, h n))
 
 -- lists of just one number
 pub join-ones : (f : ℕ → ℕ) (n : ℕ) → length (joinBelow (λ i. f i ∷ []) n) ≡ n

@@ -11,6 +11,7 @@ use lib.Bits.{bitAnd, bitOr, bitXor, differ, and-step, or-step, xor-step, or-shr
 
 -- ---- a number by its digits: what digit i of n is, and two numbers with the same digits are equal
 
+-- digit i of n
 abbrev pub bit : ℕ → ℕ → ℕ
 bit i n = n / 2 ^ i % 2
 

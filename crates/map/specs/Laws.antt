@@ -39,11 +39,11 @@ module _ (s : List ℕ) (h : Header) (e : h ≡ headerOf s) where
   unfolding mapGood
   bad-header g = simp (rw e at g)
 
-  pub bad-filler : allBelow (fillerGood s) (h .entries) ≡ false → mapGood s ≡ false
+  pub bad-filler : allBelow (fillerGood s) (h .offset) ≡ false → mapGood s ≡ false
   unfolding mapGood
   bad-filler g = simp (rw e at g, and-false)
 
-  pub good-so-far : headerGood h (length s) ≡ true → allBelow (fillerGood s) (h .entries) ≡ true → mapGood s ≡ allBelow (placeGood s) (h .partitions)
+  pub good-so-far : headerGood h (length s) ≡ true → allBelow (fillerGood s) (h .offset) ≡ true → mapGood s ≡ allBelow (placeGood s) (h .partitions)
   unfolding mapGood
   good-so-far g f = simp (rw e at g, rw e at f, e)
 
@@ -56,9 +56,9 @@ pub record HeaderRules (h : Header) (len : ℕ) : Type 0 where
   pub cells-most : h .cells ≤ 2048
   pub bound-least : 33 ≤ h .bound
   pub bound-most : h .bound ≤ 64
-  pub entries-least : 8 ≤ h .entries
-  pub entries-most : h .entries ≤ 128
-  pub long : len ≡ h .entries + 8 * h .partitions
+  pub offset-least : 8 ≤ h .offset
+  pub offset-most : h .offset ≤ 128
+  pub long : len ≡ h .offset + 8 * h .partitions
 
 pub header-rules : (h : Header) (len : ℕ) → headerGood h len ≡ true → HeaderRules h len
 unfolding headerGood
@@ -71,8 +71,8 @@ header-rules h len g =
       cells-most = leb-true _ _ (rule 3);
       bound-least = leb-true _ _ (rule 4);
       bound-most = leb-true _ _ (rule 5);
-      entries-least = leb-true _ _ (rule 6);
-      entries-most = leb-true _ _ (rule 7);
+      offset-least = leb-true _ _ (rule 6);
+      offset-most = leb-true _ _ (rule 7);
       long = eqb-true _ _ (rule 8);
     }
 

@@ -13,11 +13,11 @@ use Rattle.map.specs.declared.Entry.{Entry}
 
 -- "Header, four u16: partition count P, cell count C, bound B, offset E of the entries"
 abbrev pub headerOf : (image : List ℕ) → Header
-headerOf s = record { partitions = u16At s 0; cells = u16At s 2; bound = u16At s 4; entries = u16At s 6 }
+headerOf s = record { partitions = u16At s 0; cells = u16At s 2; bound = u16At s 4; offset = u16At s 6 }
 
 -- where entry i starts
 abbrev pub entryPlace : (image : List ℕ) (i : ℕ) → ℕ
-entryPlace s i = headerOf s .entries + 8 * i
+entryPlace s i = headerOf s .offset + 8 * i
 
 -- "Entry, 8 bytes: u16 first cell, u16 cells n, u8 kind, u8 flags, two zero bytes"
 abbrev pub entryOf : (image : List ℕ) (i : ℕ) → Entry
@@ -66,10 +66,10 @@ headerGood h len =
     ∷ leb 33 (h .bound)
     ∷ leb (h .bound) 64
     -- E is 8 to 128
-    ∷ leb 8 (h .entries)
-    ∷ leb (h .entries) 128
+    ∷ leb 8 (h .offset)
+    ∷ leb (h .offset) 128
     -- "The image is exactly E + 8P long"
-    ∷ eqb len (h .entries + 8 * h .partitions)
+    ∷ eqb len (h .offset + 8 * h .partitions)
     ∷ [])
 
 -- "Bytes 8 up to E are zero": byte k is one of the header's eight or zero
@@ -115,5 +115,5 @@ placeGood s i = entryGood (endBefore s i) (headerOf s .cells) (entryOf s i) (u16
 unfoldable pub mapGood : (image : List ℕ) → Bool
 mapGood s =
     headerGood (headerOf s) (length s)
-    && allBelow (fillerGood s) (headerOf s .entries)
+    && allBelow (fillerGood s) (headerOf s .offset)
     && allBelow (placeGood s) (headerOf s .partitions)

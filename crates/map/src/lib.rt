@@ -1,10 +1,9 @@
 // The map of the fuses: an image of bytes, judged by every rule of the document and read. Each
-// function answers for any bytes of any length; only a good map's fields mean anything. The rules
-// are in `specs/Map`, what a good map gives its callers in `specs/Laws`. It rests on `endian` and
-// `laws`.
+// public function answers for any bytes of any length; only a good map's fields mean anything. The
+// rules are in `specs/Map`, what a good map gives its callers in `specs/Laws`. It rests on `endian`
+// and `laws`.
 ghost use mathlib.Core.Path.{_≡_};
 ghost use Prim.Native.Nat.{_+_, _*_, _^_, _<_, _≤_};
-ghost use lib.ListN.{length};
 ghost use Rattle.laws.specs.Below.{allBelow};
 ghost use Rattle.map.specs.Map.{headerOf, entryOf, endOf, zeroizable, secret, slot, headerGood, fillerGood, entryGood, endBefore, placeGood, mapGood};
 
@@ -13,7 +12,7 @@ pub struct Header {
     pub partitions: u16,
     pub cells: u16,
     pub bound: u16,
-    pub entries: u16,
+    pub offset: u16,
 }
 
 // One partition: its first cell, its number of cells, its kind and its flags.
@@ -38,16 +37,16 @@ pub fn read_header(image: &[u8]) -> Header
         partitions: endian::u16_at(image, 0),
         cells: endian::u16_at(image, 2),
         bound: endian::u16_at(image, 4),
-        entries: endian::u16_at(image, 6),
+        offset: endian::u16_at(image, 6),
     }
 }
 
 // Where entry `i` of an image starts.
 fn entry_place(image: &[u8], i: u32) -> usize
-    ensures { λ r. ⌜ (r ≡ headerOf (now (image .entry)) .entries + 8 * i) × (r < 2 ^ 36) ⌝ }
+    ensures { λ r. ⌜ (r ≡ headerOf (now (image .entry)) .offset + 8 * i) × (r < 2 ^ 36) ⌝ }
 {
-    let entries = endian::u16_at(image, 6);
-    (entries as usize) + 8 * (i as usize)
+    let offset = endian::u16_at(image, 6);
+    (offset as usize) + 8 * (i as usize)
 }
 
 // Entry `i` of an image.
@@ -101,18 +100,18 @@ fn header_good(h: Header, len: usize) -> bool
         & (h.cells <= 2048)
         & (33 <= h.bound)
         & (h.bound <= 64)
-        & (8 <= h.entries)
-        & (h.entries <= 128)
-        & (len == (h.entries as usize) + 8 * (h.partitions as usize))
+        & (8 <= h.offset)
+        & (h.offset <= 128)
+        & (len == (h.offset as usize) + 8 * (h.partitions as usize))
 }
 
-// Whether bytes 8 up to `entries` are zero.
-fn filler_good(image: &[u8], entries: usize) -> bool
-    requires { ⌜ 8 ≤ entries ⌝ }
-    ensures { λ r. ⌜ r ≡ allBelow (fillerGood (now (image .entry))) entries ⌝ }
+// Whether bytes 8 up to `offset` are zero.
+fn filler_good(image: &[u8], offset: usize) -> bool
+    requires { ⌜ 8 ≤ offset ⌝ }
+    ensures { λ r. ⌜ r ≡ allBelow (fillerGood (now (image .entry))) offset ⌝ }
 {
     let mut k: usize = 8;
-    while k < entries {
+    while k < offset {
         if endian::byte_at(image, k) != 0 {
             return false;
         }
@@ -188,7 +187,7 @@ pub fn is_good(image: &[u8]) -> bool
     if !header_good(h, image.len()) {
         return false;
     }
-    if !filler_good(image, h.entries as usize) {
+    if !filler_good(image, h.offset as usize) {
         return false;
     }
     entries_good(image, h.partitions)

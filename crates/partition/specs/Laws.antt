@@ -8,9 +8,9 @@ use mathlib.Core.List.{List}
 use native.Mathlib.Omega.{arith}
 use lib.ListN.{getD}
 use lib.Dec.{eqb, ltb}
-use borrow.Author.Tests.{eqb-true, eqb-false, le-leb, leb-true, ltb-true, not-true, eq-eqb, ne-eqb, lt-ltb, le-ltb}
+use borrow.Author.Tests.{eqb-true, eqb-false, le-leb, leb-true, ltb-true, ltb-false, not-true, eq-eqb, ne-eqb, lt-ltb, le-ltb}
 use Rattle.laws.specs.Tests.{and, decided}
-use Rattle.laws.specs.Below.{First, first-tells}
+use Rattle.laws.specs.Below.{count-none, none-count, First, first-tells}
 use Rattle.partition.specs.declared.State.{State}
 use Rattle.partition.specs.Partition.{pairs, shortAt, lowestPair, lowestShort, shortPairs, counted, noData, stateOf, zeroCell}
 use Rattle.partition.specs.declared.Lowest.the-variants.{Cell, Nothing}
@@ -76,6 +76,10 @@ module _ (zeroizable : Bool) (bound : ℕ) (part : List ℕ) where
   unfolding Tests
   erased-tells e = let t = told e in (t .0, eqb-true _ _ (t .1))
 
+  -- an erased partition has no short pair at all
+  pub erased-whole : stateOf zeroizable bound part ≡ Erased → (j : ℕ) → j < pairs part → shortAt bound part j ≡ false
+  erased-whole e j l = count-none (shortAt bound part) (pairs part) (erased-tells e .1) j l
+
   pub torn-tells : stateOf zeroizable bound part ≡ Torn → (counted zeroizable bound part ≡ true) × (shortPairs bound part ≡ 0 → ⊥)
   unfolding Tests
   torn-tells e = let t = told e in (t .0, eqb-false _ _ (t .1))
@@ -101,6 +105,20 @@ module _ (zeroizable : Bool) (bound : ℕ) (part : List ℕ) where
       (first .0, leb-true _ _ (first .1), not-true _ (last .1))
 
 -- ---- the lowest short pair
+
+module _ (bound : ℕ) (part : List ℕ) where
+  -- there is one where some pair is short, so in every torn partition
+  pub some-lowest : (shortPairs bound part ≡ 0 → ⊥) → lowestShort bound part ≡ Cell (2 * lowestPair bound part)
+  unfolding lowestShort
+  some-lowest some =
+      let j = lowestPair bound part in
+      let w : First (shortAt bound part) 0 (pairs part) j = first-tells (shortAt bound part) 0 (pairs part) in
+      ⊎-elim
+      (λ (l : ltb j (pairs part) ≡ true). rw l)
+      (λ (l : ltb j (pairs part) ≡ false).
+      let n : pairs part ≤ j = ltb-false j (pairs part) l in
+      absurd (some (none-count (shortAt bound part) (pairs part) (λ k a. w .before k (omega arith) (omega arith)))))
+      (decided (ltb j (pairs part)))
 
 -- the answer Cell k is pair j, which is short, and none before it is
 pub record LowestAt (bound : ℕ) (part : List ℕ) (k : ℕ) : Type 0 where

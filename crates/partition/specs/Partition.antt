@@ -28,10 +28,11 @@ shortAt bound part j = short bound (pairAt part j)
 abbrev pub shortPairs : (bound : ℕ) (part : List ℕ) → ℕ
 shortPairs bound part = countBelow (shortAt bound part) (pairs part)
 
--- the first cell of the lowest short pair, or none
+-- the number of the lowest short pair, of all pairs where none is short
 abbrev pub lowestPair : (bound : ℕ) (part : List ℕ) → ℕ
 lowestPair bound part = firstBelow (shortAt bound part) (pairs part)
 
+-- the first cell of the lowest short pair, or none
 unfoldable pub lowestShort : (bound : ℕ) (part : List ℕ) → Lowest
 lowestShort bound part = cond (ltb (lowestPair bound part) (pairs part)) (Cell (2 * lowestPair bound part)) Nothing
 
@@ -48,6 +49,7 @@ tail zeroizable = cond zeroizable 4 2
 abbrev pub dataCells : (zeroizable : Bool) (part : List ℕ) → ℕ
 dataCells zeroizable part = length part - tail zeroizable
 
+-- cell k is zero
 unfoldable pub zeroCell : (part : List ℕ) (k : ℕ) → Bool
 zeroCell part k = eqb (getD part k 0) 0
 

@@ -1,11 +1,11 @@
 // One partition's cells, from where the partition starts: its short pairs, whether it counts as
 // zeroized, and its state. Each pair is counted whole against the bound; nothing is summed over
 // the partition. The definitions are in `specs/Partition`, the laws for callers in `specs/Laws`.
-// It rests on `fuse` and `laws`. Every function answers for any number of cells.
+// It rests on `fuse` and `laws`. Every public function answers for any number of cells.
 ghost use mathlib.Core.Path.{_≡_};
 ghost use Prim.Native.Nat.{_+_, _*_, _<_, _≤_};
 ghost use lib.ListN.{length};
-ghost use Rattle.partition.specs.Partition.{shortAt, shortPairs, lowestShort, counted, tail, noData, stateOf, surveyOf};
+ghost use Rattle.partition.specs.Partition.{shortAt, shortPairs, lowestShort, counted, tail, noData, surveyOf};
 
 // The first cell of the lowest short pair, counted from the partition's start.
 pub enum Lowest {
@@ -55,9 +55,9 @@ pub fn short_pairs(part: &[u32], bound: u64) -> usize
 pub fn lowest_short(part: &[u32], bound: u64) -> Lowest
     ensures { λ r. ⌜ r ≡ lowestShort bound (now (part .entry)) ⌝ }
 {
-    let pairs = part.len() / 2;
+    let end = part.len() / 2;
     let mut j: usize = 0;
-    while j < pairs {
+    while j < end {
         if short_at(part, j, bound) {
             return Lowest::Cell(2 * j);
         }

@@ -1,5 +1,6 @@
--- What the writers of the printed lines cite: a number's digits are put as its decimal, and each piece has a most length. Assumes nothing.
-use Prim.Native.Nat.{ℕ, suc, _+_, _-_, _*_, _/_, _≤_, _<_}
+-- The report's laws: the last line, a law for each refusal, the cells as they are read, the table, and what an accepted input tells.
+-- Assumes nothing.
+use Prim.Native.Nat.{ℕ, suc, _+_, _-_, _*_, _≤_, _<_}
 use mathlib.Core.Path.{_≡_, refl, ap, _∙_}
 use mathlib.Core.Bool.{Bool, true, false, cond, not}
 use mathlib.Core.List.{List, _++_}
@@ -16,15 +17,16 @@ use Rattle.map.specs.declared.Header.{Header}
 use Rattle.map.specs.declared.Entry.{Entry}
 use Rattle.map.specs.Laws.{map-header, map-entry}
 use Rattle.partition.specs.declared.Survey.{Survey}
-use Rattle.partition.specs.Partition.{shortAt}
+use Rattle.partition.specs.Partition.{pairs, shortAt}
 use Rattle.drive.specs.declared.ActiveSlot.{ActiveSlot}
-use Rattle.drive.specs.Drive.{surveyAt, activeSlot, slotNumber, available}
-use Rattle.map.specs.Map.{headerOf, entryOf, endOf, mapGood}
+use Rattle.drive.specs.Laws.{available-tells}
+use Rattle.drive.specs.Drive.{cellsOf, surveyAt, activeSlot, slotNumber, available}
+use Rattle.map.specs.Map.{headerOf, entryOf, mapGood}
 use Rattle.text.specs.Text.{text, decimal}
 use Rattle.text.specs.Put.{Put}
 use Rattle.report.specs.declared.Reading.{Reading}
 use Rattle.report.specs.declared.Reading.the-variants.{Drive, Refused}
-use Rattle.report.specs.Status.{mapLength, imageOf, cellCount, numberAt, cellsOf, readingOf, lineOf, hekLine, lineAt, tableOf, printed, statusOf, Printed}
+use Rattle.report.specs.Status.{mapLength, imageOf, cellCount, numberAt, inputCells, readingOf, lineOf, hekLine, lineAt, tableOf, printed, statusOf, Printed}
 
 -- ---- the last line
 
@@ -57,18 +59,23 @@ module _ (input : List ℕ) where
     image-is = let q : 2 + len - 2 ≡ mapLength input = omega arith in rw q
 
     module _ (n : len ≤ 256) (whole : 2 + len ≤ length input) where
-      pub bad-map : mapGood (imageOf input) ≡ false → readingOf input ≡ Refused 1
+      -- the tests before the map's pass
+      so-far : {rest : Reading} → cond (not (mapGood (imageOf input))) (Refused 1) (cond (not (eqb (length input) (2 + mapLength input + 8 * cellCount input))) (Refused 2) Drive) ≡ rest → readingOf input ≡ rest
       unfolding readingOf
-      bad-map g = let k : mapLength input ≤ 256 = omega arith in let w : 2 + mapLength input ≤ length input = omega arith in simp (le-ltb _ _ two, le-ltb _ _ k, le-ltb _ _ w, g)
+      so-far q =
+          let k : mapLength input ≤ 256 = omega arith in
+          let w : 2 + mapLength input ≤ length input = omega arith in
+          simp (le-ltb _ _ two, le-ltb _ _ k, le-ltb _ _ w) q
+
+      pub bad-map : mapGood (imageOf input) ≡ false → readingOf input ≡ Refused 1
+      bad-map g = so-far (simp g)
 
       module _ (g : mapGood (imageOf input) ≡ true) where
         pub whole-drive : length input ≡ 2 + len + 8 * cellCount input → readingOf input ≡ Drive
-        unfolding readingOf
-        whole-drive l = let k : mapLength input ≤ 256 = omega arith in let w : 2 + mapLength input ≤ length input = omega arith in let q : length input ≡ 2 + mapLength input + 8 * cellCount input = omega arith in simp (le-ltb _ _ two, le-ltb _ _ k, le-ltb _ _ w, g, eq-eqb _ _ q)
+        whole-drive l = let q : length input ≡ 2 + mapLength input + 8 * cellCount input = omega arith in so-far (simp (g, eq-eqb _ _ q))
 
         pub not-whole : (length input ≡ 2 + len + 8 * cellCount input → ⊥) → readingOf input ≡ Refused 2
-        unfolding readingOf
-        not-whole l = let k : mapLength input ≤ 256 = omega arith in let w : 2 + mapLength input ≤ length input = omega arith in simp (le-ltb _ _ two, le-ltb _ _ k, le-ltb _ _ w, g, ne-eqb _ _ (λ (q : length input ≡ 2 + mapLength input + 8 * cellCount input). l (omega arith)))
+        not-whole l = so-far (simp (g, ne-eqb _ _ (λ (q : length input ≡ 2 + mapLength input + 8 * cellCount input). l (omega arith))))
 
 -- ---- the cells, one number stored after the other
 
@@ -140,13 +147,13 @@ taken input len header r e q =
     record { len-most = omega arith; whole = omega arith; image = image; good = a .good; count = count; count-most = omega arith }
 
 -- the cells that were read are the input's
-pub cells-are : (input : List ℕ) (len count : ℕ) (start cells : List ℕ) → len ≡ mapLength input → count ≡ cellCount input → cells ≡ joinBelow (numberAt input (2 + len)) count ++ drop count start → take count cells ≡ cellsOf input
+pub cells-are : (input : List ℕ) (len count : ℕ) (start cells : List ℕ) → len ≡ mapLength input → count ≡ cellCount input → cells ≡ joinBelow (numberAt input (2 + len)) count ++ drop count start → take count cells ≡ inputCells input
 cells-are input len count start cells e n c =
     let front : take count cells ≡ joinBelow (numberAt input (2 + len)) count = rw c (take-at _ _ count (numbers-long input (2 + len) count)) in
     front ∙ rw (e, n)
 
 -- and they are as many as the map says
-pub cells-long : (input : List ℕ) → length (cellsOf input) ≡ cellCount input
+pub cells-long : (input : List ℕ) → length (inputCells input) ≡ cellCount input
 cells-long input = numbers-long input _ _
 
 -- ---- the whole output
@@ -163,7 +170,12 @@ unfolding surveyAt
 small-numbers image cells g i l =
     let h = map-header image g in
     let x = map-entry image g i l in
-    let part = take (endOf (entryOf image i) - entryOf image i .first) (drop (entryOf image i .first) cells) in
+    let part = cellsOf image cells i in
     let long : length part ≤ entryOf image i .n = simp length-take (omega arith) in
-    let short = count-le (shortAt (headerOf image .bound) part) (length part / 2) in
+    let short = count-le (shortAt (headerOf image .bound) part) (pairs part) in
     (omega arith, omega arith, omega arith)
+
+pub small-slot : (image cells : List ℕ) → mapGood image ≡ true → available (activeSlot image cells) ≡ true → slotNumber (activeSlot image cells) < 10000
+small-slot image cells g e =
+    let a = available-tells image cells e in
+    rw (a .answer) (omega (arith, a .within, map-header image g .partitions-most))

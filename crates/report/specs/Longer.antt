@@ -1,4 +1,5 @@
--- A longer input: what lies past byte 16,642 (2 + 256 + 8 · 2,048) changes no answer, so that the program may stop reading there.
+-- A longer input: once there are more than 16,642 bytes (2 + 256 + 8 · 2,048, the longest drive), what follows changes nothing. So a
+-- program that reads at least one byte more than that may stop reading.
 -- Assumes nothing.
 use Prim.Native.Nat.{ℕ, suc, _+_, _-_, _*_, _≤_, _<_}
 use mathlib.Core.Path.{_≡_, refl, sym, ap, _∙_}

@@ -34,8 +34,8 @@ unfoldable pub numberAt : (input : List ℕ) (from k : ℕ) → List ℕ
 numberAt input from k = u32At input (from + 4 * k) ∷ []
 
 -- the cells; the marks behind them are counted and not looked at
-abbrev pub cellsOf : (input : List ℕ) → List ℕ
-cellsOf input = joinBelow (numberAt input (2 + mapLength input)) (cellCount input)
+abbrev pub inputCells : (input : List ℕ) → List ℕ
+inputCells input = joinBelow (numberAt input (2 + mapLength input)) (cellCount input)
 
 -- the refusals "in this order": 2 the length is cut short, 1 the length is over 256, 2 the map is cut short, 1 the map is bad, 2 the
 -- cells and marks are cut short or anything follows them
@@ -50,6 +50,7 @@ readingOf input =
 
 -- ---- the output
 
+-- a state's name, as document 01 writes it
 abbrev pub stateName : State → List ℕ
 stateName Erased = text "erased"
 stateName Torn = text "torn"
@@ -64,6 +65,7 @@ lineOf i n survey = decimal i ++ text " " ++ decimal n ++ text " " ++ stateName 
 unfoldable pub hekLine : ActiveSlot → List ℕ
 hekLine slot = cond (available slot) (text "hek " ++ decimal (slotNumber slot) ++ text "\n") (text "hek none\n")
 
+-- the line of partition i
 unfoldable pub lineAt : (image cells : List ℕ) (i : ℕ) → List ℕ
 lineAt image cells i = lineOf i (entryOf image i .n) (surveyAt image cells i)
 
@@ -78,9 +80,10 @@ tableOf image cells =
 abbrev pub refusedLine : (number : ℕ) → List ℕ
 refusedLine number = text "refused " ++ decimal number ++ text "\n"
 
+-- what is printed for each reading of the input
 abbrev pub printed : Reading → (input : List ℕ) → List ℕ
 printed (Refused number) input = refusedLine number
-printed Drive input = tableOf (imageOf input) (cellsOf input)
+printed Drive input = tableOf (imageOf input) (inputCells input)
 
 -- everything that the status program prints
 abbrev pub statusOf : (input : List ℕ) → List ℕ

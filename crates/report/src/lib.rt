@@ -1,7 +1,7 @@
 // The status program's answer: the bytes that it reads go in, the bytes that it prints come out in a
 // lent buffer. Reading, judging and every printed byte are decided here; the program only moves
-// bytes. The definitions are in `specs/Status`. It rests on `drive`, `map`, `partition`, `endian`
-// and `text`.
+// bytes. The definitions are in `specs/Status`, the laws in `specs/Laws` and `specs/Longer`. It rests
+// on `drive`, `map`, `partition` and `text`, and below them on `endian` and `laws`.
 use drive::ActiveSlot;
 use partition::State;
 use partition::Survey;
@@ -11,7 +11,7 @@ ghost use Prim.Native.Nat.{_+_, _≤_};
 ghost use lib.ListN.{length, drop};
 ghost use Rattle.laws.specs.Below.{joinBelow};
 ghost use Rattle.drive.specs.Drive.{Whole};
-ghost use Rattle.report.specs.Status.{imageOf, numberAt, cellsOf, readingOf, stateName, lineOf, hekLine, tableOf, refusedLine, Printed};
+ghost use Rattle.report.specs.Status.{imageOf, numberAt, inputCells, readingOf, stateName, lineOf, hekLine, tableOf, refusedLine, Printed};
 ghost use Rattle.text.specs.Put.{Put};
 
 // What the input is: a whole drive, or refused with its number.
@@ -133,7 +133,7 @@ fn put_table(out: &mut [u8], image: &[u8], cells: &[u32]) -> usize
 // Writes the table of the drive that the input holds.
 fn put_drive(out: &mut [u8], input: &[u8]) -> usize
     requires { ⌜ (readingOf (now input) ≡ Reading.Drive) × (448 ≤ length (now out)) ⌝ }
-    ensures { λ r. ⌜ Put 0 (tableOf (imageOf (now (input .entry))) (cellsOf (now (input .entry)))) (now (out .entry)) (now (out .exit)) r ⌝ }
+    ensures { λ r. ⌜ Put 0 (tableOf (imageOf (now (input .entry))) (inputCells (now (input .entry)))) (now (out .entry)) (now (out .exit)) r ⌝ }
 {
     let end = 2 + endian::u16_at(input, 0) as usize;
     let image = &input[2..end];

@@ -14,10 +14,6 @@ use Rattle.laws.specs.Tests.{decided}
 use Rattle.text.specs.Text.{digit, digits, zeros, decimal}
 use Rattle.text.specs.Put.{Put}
 
-pub decimal-most : (v : ℕ) → length (decimal v) ≤ 4
-unfolding decimal
-decimal-most v = simp length-drop (omega arith)
-
 -- the next place after a piece of at most k bytes
 pub next-most : {at next : ℕ} {t before after : List ℕ} (k : ℕ) → length t ≤ k → Put at t before after next → next ≤ at + k
 next-most k h p = omega arith
@@ -35,6 +31,7 @@ put-digits {at} {next} {before} {after} v z a b c d ez ea eb ec ed p =
 
 -- ---- the text is the number's: reading its digits gives it back
 
+-- the number that digits add behind a value
 abbrev pub valueFrom : (value : ℕ) (digits : List ℕ) → ℕ
 valueFrom value [] = value
 valueFrom value (d ∷ ds) = valueFrom (value * 10 + (d - 48)) ds

@@ -1,6 +1,6 @@
 // Text in a lent buffer, piece after piece: bytes as they are, and numbers in decimal. Bytes outside
 // the piece keep their values. The definitions are in `specs/Text` and `specs/Put`. It rests on the
-// kit's `bytes`.
+// kit's `bytes` and on `laws`.
 ghost use Prim.Native.Nat.{_+_, _≤_};
 ghost use mathlib.Core.Path.{_≡_};
 ghost use lib.ListN.{length};
@@ -35,7 +35,8 @@ fn leading_zeros(v: usize) -> usize
     if v < 1000 { 1 } else { 0 }
 }
 
-// Writes a number below 10,000 in decimal.
+// Writes the last four digits of `v`, without leading zeros, and answers the place past them: below
+// 10,000 that is the number in decimal.
 pub fn put_decimal(out: &mut [u8], at: usize, v: usize) -> usize
     requires { ⌜ at + 4 ≤ length (now out) ⌝ }
     ensures { λ r. ⌜ Put at (decimal v) (now (out .entry)) (now (out .exit)) r × (r ≤ at + 4) ⌝ }

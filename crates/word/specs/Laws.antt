@@ -2,7 +2,7 @@
 -- in the one partition that holds it. Assumes nothing.
 use Prim.Native.Nat.{ℕ, _+_, _-_, _%_, _≤_, _<_}
 use mathlib.Core.Path.{_≡_, refl, sym, ap, subst, _∙_}
-use mathlib.Core.Logic.{_⊎_, ⊎-elim}
+use mathlib.Core.Logic.{⊎-elim}
 use mathlib.Core.Bool.{Bool, true, false, cond, not, false≢true}
 use mathlib.Core.List.{List}
 use native.Mathlib.Omega.{arith}
@@ -13,10 +13,10 @@ use Rattle.laws.specs.Tests.{decided, not-yes, and}
 use Rattle.laws.specs.Below.{first-tells, first-is}
 use Rattle.map.specs.declared.Header.{Header}
 use Rattle.map.specs.declared.Entry.{Entry}
-use Rattle.map.specs.Map.{headerOf, entryOf, endOf, software, zeroizable, mapGood}
+use Rattle.map.specs.Map.{headerOf, entryOf, endOf, endBefore, software, zeroizable, mapGood}
 use Rattle.fuse.specs.Fuse.{cellsIn}
 use Rattle.partition.specs.Partition.{tail}
-use Rattle.map.specs.Laws.{map-entry, map-order}
+use Rattle.map.specs.Laws.{EntryRules, map-entry, map-order}
 use Rattle.word.specs.declared.Role.{Role}
 use Rattle.word.specs.declared.Role.the-variants.{Data, Digest, Indicator}
 use Rattle.word.specs.declared.Lookup.{Lookup}
@@ -150,28 +150,31 @@ module _ (s : List ℕ) (g : mapGood s ≡ true) (cell k : ℕ) (l : k < headerO
   abbrev x : Entry
   x = entryOf s k
 
+  rules : EntryRules (endBefore s k) (headerOf s .cells) x
+  rules = map-entry s g k l
+
+  last : Ends x
+  last = ends x (rules .n-least) (rules .n-zeroizable)
+
+  inside : (x .first ≤ cell) × (cell < endOf x)
+  inside = held x cell h
+
+  -- a word of some width that ends within the partition, given where its role says
+  found : (role : Role) (wide : Bool) → cell + cellsIn wide ≤ endOf x → (wide ≡ true → cell % 2 ≡ 0) → Lies x cell role wide → Found s cell k role wide
+  found role wide high even lies = record { partition = l; low = inside .0; high = high; within = omega (arith, rules .within); even = even; lies = lies }
+
   place : (role : Role) (wide : Bool) → Tests x k cell (Word k role wide) → Found s cell k role wide
   place Data true t =
-      let r = map-entry s g k l in
-      let e = ends x (r .n-least) (r .n-zeroizable) in
-      let c = held x cell h in
       let even = t .3 refl in
-      record { partition = l; low = c .0; high = omega arith; within = omega arith; even = λ _. even; lies = (omega arith, t .2) }
-  place Data false t =
-      let r = map-entry s g k l in
-      let e = ends x (r .n-least) (r .n-zeroizable) in
-      let c = held x cell h in
-      record { partition = l; low = c .0; high = omega arith; within = omega arith; even = λ n. absurd (false≢true n); lies = (omega arith, t .2) }
-  place Digest wide t = rw (t .2) (
-      let r = map-entry s g k l in
-      let e = ends x (r .n-least) (r .n-zeroizable) in
-      let c = held x cell h in
-      record { partition = l; low = c .0; high = omega arith; within = omega arith; even = λ _. omega arith; lies = (omega arith, refl) })
-  place Indicator wide t = rw (t .3) (
-      let r = map-entry s g k l in
-      let e = ends x (r .n-least) (r .n-zeroizable) in
-      let c = held x cell h in
-      record { partition = l; low = c .0; high = omega arith; within = omega arith; even = λ _. omega arith; lies = (omega arith, refl, indicator-only (zeroizable x) (omega arith)) })
+      let room : cell + 2 + tail (zeroizable x) ≤ endOf x = omega (arith, t .1, rules .first-even, rules .n-even, last .even) in
+      found Data true (omega arith) (λ _. even) (room, t .2)
+  place Data false t = found Data false (omega (arith, inside .1)) (λ n. absurd (false≢true n)) (omega (arith, t .1), t .2)
+  place Digest wide t =
+      let at : cell + tail (zeroizable x) ≡ endOf x = omega (arith, t .1, inside .1) in
+      rw (t .2) (found Digest true (omega (arith, last .least)) (λ _. omega (arith, rules .first-even, rules .n-even, last .even)) (at, refl))
+  place Indicator wide t =
+      let at : cell + 2 ≡ endOf x = omega (arith, t .1) in
+      rw (t .3) (found Indicator true (omega arith) (λ _. omega (arith, rules .first-even, rules .n-even)) (at, refl, indicator-only (zeroizable x) (omega (arith, t .1, t .2))))
 
   -- so at an answer that names some partition i, the partition is k
   at-answer : (i : ℕ) (role : Role) (wide : Bool) → Word i role wide ≡ wordIn x k cell → Found s cell i role wide

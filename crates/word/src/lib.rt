@@ -1,7 +1,7 @@
-// The words of a map: which word starts at a cell of the whole array. Every function answers for any
-// bytes and any cell; in a good map each word lies in the one partition that the answer names. The
-// definitions are in `specs/Word`, the laws for callers in `specs/Laws`. It rests on `map`
-// and on `partition` for where data end.
+// The words of a map: which word starts at a cell of the whole array. Every public function answers
+// for any bytes and any cell; in a good map each word lies in the one partition that the answer
+// names. The definitions are in `specs/Word`, the laws for callers in `specs/Laws`. It rests on
+// `map`, on `partition` for where data end, and below them on `fuse`, `endian` and `laws`.
 use map::Entry;
 ghost use mathlib.Core.Path.{_≡_};
 ghost use Prim.Native.Nat.{_<_};

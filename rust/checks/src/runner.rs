@@ -10,12 +10,21 @@ use std::time::Duration;
 /// Far more than any run takes: a program still running then does not end.
 const LIMIT: Duration = Duration::from_secs(20);
 
+/// Long enough for the program to read what is there before more arrives.
+const PAUSE: Duration = Duration::from_millis(5);
+
 /// Runs the status program on this standard input and gives what it printed.
 ///
 /// Fails the test if the program is missing, does not end, ends with a status
 /// other than 0 or prints to standard error.
 pub fn status(input: &[u8]) -> Vec<u8> {
-    run(&program("status"), input)
+    status_in_pieces(std::iter::once(input))
+}
+
+/// The same where the input arrives in pieces, with a pause between them, so
+/// that the program meets reads that bring less than it asked for.
+pub fn status_in_pieces<'a>(pieces: impl Iterator<Item = &'a [u8]>) -> Vec<u8> {
+    run(&program("status"), &pieces.collect::<Vec<_>>())
 }
 
 /// The path of a built program, seen from the repository's root.
@@ -31,7 +40,7 @@ fn program(name: &str) -> PathBuf {
 
 /// Input and output go through threads of their own, so that neither a full
 /// pipe nor a program that stops reading early can block the run.
-fn run(path: &Path, input: &[u8]) -> Vec<u8> {
+fn run(path: &Path, input: &[&[u8]]) -> Vec<u8> {
     let mut child = start(path);
     let stdin = child.stdin.take().expect("standard input is a pipe");
     let (sender, receiver) = mpsc::channel();
@@ -59,11 +68,17 @@ fn start(path: &Path) -> Child {
     command.spawn().unwrap_or_else(|error| panic!("{} does not start: {error}", path.display()))
 }
 
-/// Writes the whole input, then closes the pipe. A program that refuses early
-/// need not read the rest, so a broken pipe is no fault.
-fn feed(mut stdin: ChildStdin, input: &[u8]) {
-    if let Err(error) = stdin.write_all(input) {
-        assert_eq!(error.kind(), ErrorKind::BrokenPipe, "the input cannot be written: {error}");
+/// Writes the input piece by piece, then closes the pipe. A program that
+/// refuses early need not read the rest, so a broken pipe is no fault.
+fn feed(mut stdin: ChildStdin, input: &[&[u8]]) {
+    for (number, piece) in input.iter().enumerate() {
+        if number > 0 {
+            thread::sleep(PAUSE);
+        }
+        if let Err(error) = stdin.write_all(piece) {
+            assert_eq!(error.kind(), ErrorKind::BrokenPipe, "the input cannot be written: {error}");
+            return;
+        }
     }
 }
 

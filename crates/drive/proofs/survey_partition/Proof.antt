@@ -24,7 +24,7 @@ survey-at-requires : tie.Need-survey-at-requires
 survey-at-requires c κs =
     let told = c .before .before .before in
     let j = judged _ _ _ _ (sym (told .header .given .1) ∙ told .before .before .check-drive .ensures) in
-    let p = ap (λ (h : Header). h .partitions) (j .is) in
+    let p = ap (λ (h : Header). h .partitions) (j .header-is) in
     (j .whole, omega arith)
 
 returns : tie.Need-returns

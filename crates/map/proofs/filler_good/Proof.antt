@@ -11,10 +11,10 @@ use Rattle.map.proofs.filler_good.Statement.{statement}
 use Rattle.map.proofs.filler_good.Tie as tie
 
 abbrev Inv-loop : tie.InvT-loop
-Inv-loop image entries k₀ k = (8 ≤ k) × (k ≤ entries) × (allBelow (fillerGood image) k ≡ true)
+Inv-loop image offset k₀ k = (8 ≤ k) × (k ≤ offset) × (allBelow (fillerGood image) k ≡ true)
 
 abbrev μ-loop : tie.MeasureT-loop
-μ-loop image entries k₀ k = entries - k
+μ-loop image offset k₀ k = offset - k
 
 loop-holds : tie.Need-loop-holds Inv-loop μ-loop
 unfolding allBelow fillerGood
@@ -40,7 +40,7 @@ loop-again c =
     (omega arith, omega arith, all-step _ _ (top .loop .inv .2) (filler-zero _ _ (sym (c .before .byte-at .ensures) ∙ c .if1 .left)))
 
 returns-2 : tie.Need-returns-2 Inv-loop μ-loop
-returns-2 c = let e : c .before .loop .k ≡ c .before .before .before .args .entries = omega arith in cc
+returns-2 c = let e : c .before .loop .k ≡ c .before .before .before .args .offset = omega arith in cc
 
 pub filler-good-spec : {M : Type 1} → statement M
 filler-good-spec =

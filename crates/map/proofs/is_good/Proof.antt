@@ -21,7 +21,7 @@ cast-filler-good : tie.Need-cast-filler-good
 cast-filler-good c = search needs
 
 filler-good-requires : tie.Need-filler-good-requires
-filler-good-requires c κs = header-rules _ _ (sym (c .before .before .header-good .ensures) ∙ not-false _ (c .before .if1 .left)) .entries-least
+filler-good-requires c κs = header-rules _ _ (sym (c .before .before .header-good .ensures) ∙ not-false _ (c .before .if1 .left)) .offset-least
 
 returns-2 : tie.Need-returns-2
 returns-2 c =

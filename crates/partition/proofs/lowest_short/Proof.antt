@@ -10,10 +10,10 @@ use Rattle.partition.proofs.lowest_short.Statement.{statement}
 use Rattle.partition.proofs.lowest_short.Tie as tie
 
 abbrev Inv-loop : tie.InvT-loop
-Inv-loop part bound pairs j₀ j = (j ≤ pairs) × (lowestPair bound part ≡ firstFrom (shortAt bound part) j (pairs - j))
+Inv-loop part bound end j₀ j = (j ≤ end) × (lowestPair bound part ≡ firstFrom (shortAt bound part) j (end - j))
 
 abbrev μ-loop : tie.MeasureT-loop
-μ-loop part bound pairs j₀ j = pairs - j
+μ-loop part bound end j₀ j = end - j
 
 loop-holds : tie.Need-loop-holds Inv-loop μ-loop
 loop-holds c = (omega arith, first-start _ _)

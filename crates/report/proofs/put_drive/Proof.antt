@@ -3,7 +3,7 @@ use mathlib.Core.Path.{_≡_}
 use native.Mathlib.Omega.{arith}
 use lib.ListN.{take, length-take}
 use borrow.Author.Needs.{needs}
-use Rattle.report.specs.Status.{cellsOf}
+use Rattle.report.specs.Status.{inputCells}
 use Rattle.report.specs.Laws.{Taken, accepted, taken, cells-are, cells-long}
 use Rattle.report.proofs.put_drive.Statement.{statement}
 use Rattle.report.proofs.put_drive.Tie as tie
@@ -49,7 +49,7 @@ slice-aggregate-put-table : tie.Need-slice-aggregate-put-table
 slice-aggregate-put-table c = let t = told (c .before .before .before .before .before .before) in simp length-take (omega (arith, c .before .before .before .read-cells .kept .1 .1 .1 .0))
 
 -- the cells that were read are the input's
-read : (c : tie.After-numbers3) → let start = c .before .before .before .before .before .before .before .before .before .before .before in take (c .before .before .before .before .before .before .read-header .result .cells) (c .before .before .before .read-cells .last .1 .1 .1 .0) ≡ cellsOf (start .args .input .now)
+read : (c : tie.After-numbers3) → let start = c .before .before .before .before .before .before .before .before .before .before .before in take (c .before .before .before .before .before .before .read-header .result .cells) (c .before .before .before .read-cells .last .1 .1 .1 .0) ≡ inputCells (start .args .input .now)
 read c =
     let h = c .before .before .before .before .before .before in
     cells-are _ _ _ _ _ (h .before .before .u16-at .ensures) (told h .count) (c .before .before .before .read-cells .ensures)
