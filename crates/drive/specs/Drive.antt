@@ -6,7 +6,7 @@ use mathlib.Core.List.{List}
 use lib.ListN.{length, take, drop}
 use lib.Dec.{eqb, ltb}
 use Rattle.laws.specs.Below.{firstBelow}
-use Rattle.map.specs.Map.{headerOf, entryOf, endOf, zeroizable, slot, mapGood}
+use Rattle.map.specs.Map.{headerOf, entryOf, zeroizable, slot, mapGood}
 use Rattle.partition.specs.declared.State.{State}
 use Rattle.partition.specs.declared.State.the-variants.{Erased, Torn, Blank, Programmed}
 use Rattle.partition.specs.declared.Survey.{Survey}
@@ -33,7 +33,7 @@ checkOf image cells marks =
     (cond (not (wholeArrays image cells marks)) (Refused 2)
     (Ready (headerOf image)))
 
--- a drive that neither refuses: what the functions below the entry points ask for
+-- a map and cells that neither refusal concerns: what the functions below the entry points ask for
 pub record Whole (image cells : List ℕ) : Type 0 where
   pub good : mapGood image ≡ true
   pub long : length cells ≡ headerOf image .cells
@@ -42,7 +42,7 @@ pub record Whole (image cells : List ℕ) : Type 0 where
 
 -- "A partition's cells are handed on as a part of the array that starts where the partition starts"
 abbrev pub cellsOf : (image cells : List ℕ) (i : ℕ) → List ℕ
-cellsOf image cells i = take (endOf (entryOf image i) - entryOf image i .first) (drop (entryOf image i .first) cells)
+cellsOf image cells i = take (entryOf image i .n) (drop (entryOf image i .first) cells)
 
 -- the state and the short pairs of partition i
 unfoldable pub surveyAt : (image cells : List ℕ) (i : ℕ) → Survey
@@ -80,12 +80,12 @@ present (ProgrammedSlot i) = true
 unfoldable pub openSlot : (image cells : List ℕ) (i : ℕ) → Bool
 openSlot image cells i = present (slotAt image cells i)
 
--- "Active slot: the first slot in map order that is not erased"
+-- "Active slot: the first slot in map order that is not erased": its partition, P where there is none
+abbrev pub activePlace : (image cells : List ℕ) → ℕ
+activePlace image cells = firstBelow (openSlot image cells) (headerOf image .partitions)
+
 unfoldable pub activeSlot : (image cells : List ℕ) → ActiveSlot
-activeSlot image cells =
-    cond (ltb (firstBelow (openSlot image cells) (headerOf image .partitions)) (headerOf image .partitions))
-    (slotAt image cells (firstBelow (openSlot image cells) (headerOf image .partitions)))
-    Absent
+activeSlot image cells = cond (ltb (activePlace image cells) (headerOf image .partitions)) (slotAt image cells (activePlace image cells)) Absent
 
 -- the document's number for each case: "active slot's partition or 0xFFFFFFFF"
 abbrev pub slotNumber : ActiveSlot → ℕ

@@ -9,7 +9,7 @@ use lib.ListN.{length, take, drop}
 use lib.Dec.{eqb, ltb}
 use borrow.Author.Tests.{ltb-true, ltb-false, eqb-true, lt-ltb, le-ltb}
 use Rattle.laws.specs.Tests.{and, decided}
-use Rattle.laws.specs.Below.{firstBelow, First, first-tells}
+use Rattle.laws.specs.Below.{First, first-tells}
 use Rattle.map.specs.declared.Header.{Header}
 use Rattle.map.specs.declared.Entry.{Entry}
 use Rattle.map.specs.Map.{headerOf, entryOf, endOf, zeroizable, slot, mapGood}
@@ -20,7 +20,7 @@ use Rattle.partition.specs.declared.State.the-variants.{Erased, Torn, Blank, Pr
 use Rattle.drive.specs.declared.Check.the-variants.{Ready, Refused}
 use Rattle.drive.specs.declared.ActiveSlot.{ActiveSlot}
 use Rattle.drive.specs.declared.ActiveSlot.the-variants.{Programmed as ProgrammedSlot, Absent}
-use Rattle.drive.specs.Drive.{Whole, wholeArrays, checkOf, surveyAt, slotIn, slotAt, present, available, openSlot, activeSlot}
+use Rattle.drive.specs.Drive.{Whole, wholeArrays, checkOf, surveyAt, slotIn, slotAt, present, available, openSlot, activePlace, activeSlot}
 
 -- ---- the check
 
@@ -63,11 +63,11 @@ judged image cells marks header e =
 -- ---- the active slot, by where a walk over the slots ended
 
 module _ (image cells : List ℕ) where
-  pub active-at : (i : ℕ) → i < headerOf image .partitions → firstBelow (openSlot image cells) (headerOf image .partitions) ≡ i → activeSlot image cells ≡ slotAt image cells i
+  pub active-at : (i : ℕ) → i < headerOf image .partitions → activePlace image cells ≡ i → activeSlot image cells ≡ slotAt image cells i
   unfolding activeSlot
   active-at i l e = rw (e, lt-ltb _ _ l)
 
-  pub active-none : firstBelow (openSlot image cells) (headerOf image .partitions) ≡ headerOf image .partitions → activeSlot image cells ≡ Absent
+  pub active-none : activePlace image cells ≡ headerOf image .partitions → activeSlot image cells ≡ Absent
   unfolding activeSlot
   active-none e = let p = headerOf image .partitions in rw (e, le-ltb p p (omega arith))
 
@@ -77,7 +77,7 @@ pub survey-is : (image cells : List ℕ) (i end : ℕ) (header : Header) (x : En
     → r ≡ surveyOf may (header .bound) (take (end - x .first) (drop (x .first) cells))
     → r ≡ surveyAt image cells i
 unfolding surveyAt
-survey-is image cells i end header x may r h e l z q = cc
+survey-is image cells i end header x may r h e l z q = let n : end - x .first ≡ x .n = omega arith in cc
 
 -- ---- a slot's answer
 
@@ -116,7 +116,7 @@ pub available-tells : (image cells : List ℕ) → available (activeSlot image c
 unfolding slotAt
 available-tells image cells e =
     let p = headerOf image .partitions in
-    let i = firstBelow (openSlot image cells) p in
+    let i = activePlace image cells in
     let w : First (openSlot image cells) 0 p i = first-tells (openSlot image cells) 0 p in
     ⊎-elim
     (λ (l : ltb i p ≡ true).

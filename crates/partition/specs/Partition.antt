@@ -28,7 +28,7 @@ shortAt bound part j = short bound (pairAt part j)
 abbrev pub shortPairs : (bound : ℕ) (part : List ℕ) → ℕ
 shortPairs bound part = countBelow (shortAt bound part) (pairs part)
 
--- the number of the lowest short pair, of all pairs where none is short
+-- the lowest short pair's number; the number of pairs where none is short
 abbrev pub lowestPair : (bound : ℕ) (part : List ℕ) → ℕ
 lowestPair bound part = firstBelow (shortAt bound part) (pairs part)
 

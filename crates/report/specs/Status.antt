@@ -19,13 +19,15 @@ use Rattle.report.specs.declared.Reading.the-variants.{Drive, Refused}
 
 -- ---- the input: "a u16 map length, the map, C cells, C marks, each a little-endian u32"
 
+-- the map's length
 abbrev pub mapLength : (input : List ℕ) → ℕ
 mapLength input = u16At input 0
 
+-- the map
 abbrev pub imageOf : (input : List ℕ) → List ℕ
 imageOf input = take (mapLength input) (drop 2 input)
 
--- C
+-- C, the map's cell count
 abbrev pub cellCount : (input : List ℕ) → ℕ
 cellCount input = headerOf (imageOf input) .cells
 

@@ -40,14 +40,14 @@ fn put_line(out: &mut [u8], at: usize, i: u32, n: u16, survey: Survey) -> usize
 {
     let state = survey.state;
     let short = survey.short;
-    let a = text::put_decimal(out, at, i as usize);
-    let b = text::put(out, a, b" ");
-    let c = text::put_decimal(out, b, n as usize);
-    let d = text::put(out, c, b" ");
-    let e = put_name(out, d, state);
-    let f = text::put(out, e, b" ");
-    let g = text::put_decimal(out, f, short);
-    text::put(out, g, b"\n")
+    let at = text::put_decimal(out, at, i as usize);
+    let at = text::put(out, at, b" ");
+    let at = text::put_decimal(out, at, n as usize);
+    let at = text::put(out, at, b" ");
+    let at = put_name(out, at, state);
+    let at = text::put(out, at, b" ");
+    let at = text::put_decimal(out, at, short);
+    text::put(out, at, b"\n")
 }
 
 // Writes the last line: the active slot's partition if the HEK is available, else `none`.
@@ -59,9 +59,9 @@ fn put_hek(out: &mut [u8], at: usize, slot: ActiveSlot) -> usize
         return text::put(out, at, b"hek none\n");
     }
     let partition = drive::slot_number(slot) as usize;
-    let a = text::put(out, at, b"hek ");
-    let b = text::put_decimal(out, a, partition);
-    text::put(out, b, b"\n")
+    let at = text::put(out, at, b"hek ");
+    let at = text::put_decimal(out, at, partition);
+    text::put(out, at, b"\n")
 }
 
 // Writes the line of a refusal.
@@ -69,9 +69,9 @@ fn put_refused(out: &mut [u8], number: u32) -> usize
     requires { ⌜ 13 ≤ length (now out) ⌝ }
     ensures { λ r. ⌜ Put 0 (refusedLine number) (now (out .entry)) (now (out .exit)) r ⌝ }
 {
-    let a = text::put(out, 0, b"refused ");
-    let b = text::put_decimal(out, a, number as usize);
-    text::put(out, b, b"\n")
+    let at = text::put(out, 0, b"refused ");
+    let at = text::put_decimal(out, at, number as usize);
+    text::put(out, at, b"\n")
 }
 
 // Judges the input: the refusals in the document's order, or a whole drive.

@@ -3,16 +3,15 @@ use Prim.Native.Nat.{_≤_, _-_}
 use mathlib.Core.Path.{_≡_, sym, ap, _∙_}
 use native.Mathlib.Omega.{arith}
 use borrow.Author.Needs.{needs}
-use Rattle.laws.specs.Below.{firstBelow, firstFrom, first-start, first-here, first-next, first-end}
+use Rattle.laws.specs.Below.{firstFrom, first-start, first-here, first-next, first-end}
 use Rattle.map.specs.declared.Header.{Header}
-use Rattle.map.specs.Map.{headerOf}
 use Rattle.drive.specs.Laws.{active-at, active-none, open-is}
-use Rattle.drive.specs.Drive.{openSlot}
+use Rattle.drive.specs.Drive.{openSlot, activePlace}
 use Rattle.drive.proofs.active_in.Statement.{statement}
 use Rattle.drive.proofs.active_in.Tie as tie
 
 abbrev Inv-loop : tie.InvT-loop
-Inv-loop image cells partitions i₀ i = (i ≤ partitions) × (firstBelow (openSlot image cells) (headerOf image .partitions) ≡ firstFrom (openSlot image cells) i (partitions - i))
+Inv-loop image cells partitions i₀ i = (i ≤ partitions) × (activePlace image cells ≡ firstFrom (openSlot image cells) i (partitions - i))
 
 abbrev μ-loop : tie.MeasureT-loop
 μ-loop image cells partitions i₀ i = partitions - i
