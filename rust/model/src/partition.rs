@@ -51,7 +51,7 @@ impl<'a> Partition<'a> {
     /// short". The indicator is the last pair.
     pub fn counted_as_zeroized(&self) -> bool {
         let last = self.pairs().last();
-        self.entry.zeroizable() && last.is_some_and(|pair| !fuse::short(pair, self.bound))
+        self.entry.zeroizable() && last.map_or(false, |pair| !fuse::short(pair, self.bound))
     }
 
     /// "Burning and counting": the state.

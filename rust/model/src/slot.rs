@@ -14,6 +14,6 @@ pub fn active_slot(map: &Map, cells: &[u32]) -> Option<usize> {
 /// "Active slot and key cache": "The HEK is available when there is one and it
 /// is programmed."
 pub fn hek_available(map: &Map, cells: &[u32]) -> bool {
-    active_slot(map, cells)
-        .is_some_and(|number| Partition::of(map, number, cells).state() == State::Programmed)
+    let programmed = |number| Partition::of(map, number, cells).state() == State::Programmed;
+    active_slot(map, cells).map_or(false, programmed)
 }

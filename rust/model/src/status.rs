@@ -21,10 +21,10 @@ pub fn output(input: &[u8]) -> Vec<u8> {
 /// little-endian u32". The refusals stand in the order of the document. The
 /// marks must be there, but nothing that is printed depends on them.
 fn read(input: &[u8]) -> Result<(Map, Vec<u32>), Refusal> {
-    let [low, high, rest @ ..] = input else {
-        return Err(Refusal::WrongLength);
+    let (length, rest) = match input {
+        [low, high, rest @ ..] => (usize::from(u16::from_le_bytes([*low, *high])), rest),
+        _ => return Err(Refusal::WrongLength),
     };
-    let length = usize::from(u16::from_le_bytes([*low, *high]));
     if length > LONGEST_MAP {
         return Err(Refusal::BadMap);
     }

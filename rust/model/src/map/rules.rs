@@ -103,8 +103,9 @@ impl Rule {
 /// `Rule::ALL`; a good image breaks none. An image too short for a header is
 /// not E + 8P long for any E and P in range, and nothing else can be said of it.
 pub fn broken_rules(image: &[u8]) -> Vec<Rule> {
-    let Some(header) = Header::read(image) else {
-        return vec![Rule::Length];
+    let header = match Header::read(image) {
+        Some(header) => header,
+        None => return vec![Rule::Length],
     };
     let entries = Entry::read_all(image, &header);
     let broken = |rule: &Rule| !rule.holds(image, &header, &entries);
