@@ -1,16 +1,17 @@
 -- A whole drive, map image, cells and marks: document 01, "Refusal numbers" 1, 2 and 7, and "Active slot and key cache". Assumes nothing.
-use Prim.Native.Nat.{ℕ, _-_}
+use Prim.Native.Nat.{ℕ}
 use mathlib.Core.Path.{_≡_}
 use mathlib.Core.Bool.{Bool, true, false, cond, _&&_, not}
-use mathlib.Core.List.{List}
+use mathlib.Core.List.{List, [], _∷_}
 use lib.ListN.{length, take, drop}
 use lib.Dec.{eqb, ltb}
 use Rattle.laws.specs.Below.{firstBelow}
+use Rattle.laws.specs.Refusals.{lowest}
 use Rattle.map.specs.Map.{headerOf, entryOf, zeroizable, slot, mapGood}
 use Rattle.partition.specs.declared.State.{State}
 use Rattle.partition.specs.declared.State.the-variants.{Erased, Torn, Blank, Programmed}
 use Rattle.partition.specs.declared.Survey.{Survey}
-use Rattle.partition.specs.Partition.{surveyOf}
+use Rattle.partition.specs.Partition.{counted, surveyOf}
 use Rattle.drive.specs.declared.Check.{Check}
 use Rattle.drive.specs.declared.Check.the-variants.{Ready, Refused}
 use Rattle.drive.specs.declared.Surveyed.{Surveyed}
@@ -26,12 +27,15 @@ use Rattle.drive.specs.declared.SlotAnswer.the-variants.{Slot, Refused a
 unfoldable pub wholeArrays : (image cells marks : List ℕ) → Bool
 wholeArrays image cells marks = eqb (length cells) (headerOf image .cells) && eqb (length marks) (headerOf image .cells)
 
--- 1: "map breaks a rule above"; then 2
+-- the first refusals of every call: 1, "map breaks a rule above", then 2
+abbrev pub driveTests : (image cells marks : List ℕ) → List (Bool × ℕ)
+driveTests image cells marks =
+    (not (mapGood image), 1)
+    ∷ (not (wholeArrays image cells marks), 2)
+    ∷ []
+
 unfoldable pub checkOf : (image cells marks : List ℕ) → Check
-checkOf image cells marks =
-    cond (not (mapGood image)) (Refused 1)
-    (cond (not (wholeArrays image cells marks)) (Refused 2)
-    (Ready (headerOf image)))
+checkOf image cells marks = lowest Refused (driveTests image cells marks) (Ready (headerOf image))
 
 -- a map and cells that neither refusal concerns: what the functions below the entry points ask for
 pub record Whole (image cells : List ℕ) : Type 0 where
@@ -48,7 +52,11 @@ cellsOf image cells i = take (entryOf image i .n) (drop (entryOf image i .first)
 unfoldable pub surveyAt : (image cells : List ℕ) (i : ℕ) → Survey
 surveyAt image cells i = surveyOf (zeroizable (entryOf image i)) (headerOf image .bound) (cellsOf image cells i)
 
--- the same, or the lowest refusal that applies: 1, 2, or 7, "no such partition"
+-- partition i is counted as zeroized
+unfoldable pub countedAt : (image cells : List ℕ) (i : ℕ) → Bool
+countedAt image cells i = counted (zeroizable (entryOf image i)) (headerOf image .bound) (cellsOf image cells i)
+
+-- a partition's survey, or the lowest refusal that applies: 1, 2, or 7, "no such partition"
 abbrev pub surveyedBy : Check → (image cells : List ℕ) (i : ℕ) → Surveyed
 surveyedBy (Refused number) image cells i = NotSurveyed number
 surveyedBy (Ready header) image cells i = cond (ltb i (header .partitions)) (Found (surveyAt image cells i)) (NotSurveyed 7)

@@ -1,26 +1,27 @@
 -- The drive's laws: what a check that refuses nothing tells, and the answers of the walk over the slots. Assumes nothing.
-use Prim.Native.Nat.{ℕ, _-_, _≤_, _<_}
-use mathlib.Core.Path.{_≡_, refl, ap, _∙_}
+use Prim.Native.Nat.{ℕ, _+_, _-_, _≤_, _<_}
+use mathlib.Core.Path.{_≡_, refl, sym, ap, _∙_}
 use mathlib.Core.Logic.{⊎-elim}
 use mathlib.Core.Bool.{false≢true, Bool, true, false, cond, _&&_, not}
-use mathlib.Core.List.{List}
+use mathlib.Core.List.{List, _∷_, _++_}
 use native.Mathlib.Omega.{arith}
 use lib.ListN.{length, take, drop}
 use lib.Dec.{eqb, ltb}
 use borrow.Author.Tests.{ltb-true, ltb-false, eqb-true, lt-ltb, le-ltb}
 use Rattle.laws.specs.Tests.{and, decided}
-use Rattle.laws.specs.Below.{First, first-tells}
+use Rattle.laws.specs.Below.{First, first-tells, first-same}
+use Rattle.laws.specs.Refusals.{lowest}
 use Rattle.map.specs.declared.Header.{Header}
 use Rattle.map.specs.declared.Entry.{Entry}
-use Rattle.map.specs.Map.{headerOf, entryOf, endOf, zeroizable, slot, mapGood}
+use Rattle.map.specs.Map.{headerOf, entryOf, zeroizable, slot, mapGood}
 use Rattle.partition.specs.declared.State.{State}
 use Rattle.partition.specs.declared.Survey.{Survey}
-use Rattle.partition.specs.Partition.{surveyOf}
+use Rattle.partition.specs.Partition.{counted, surveyOf}
 use Rattle.partition.specs.declared.State.the-variants.{Erased, Torn, Blank, Programmed}
 use Rattle.drive.specs.declared.Check.the-variants.{Ready, Refused}
 use Rattle.drive.specs.declared.ActiveSlot.{ActiveSlot}
 use Rattle.drive.specs.declared.ActiveSlot.the-variants.{Programmed as ProgrammedSlot, Absent}
-use Rattle.drive.specs.Drive.{Whole, wholeArrays, checkOf, surveyAt, slotIn, slotAt, present, available, openSlot, activePlace, activeSlot}
+use Rattle.drive.specs.Drive.{Whole, wholeArrays, driveTests, checkOf, cellsOf, surveyAt, countedAt, slotIn, slotAt, present, available, openSlot, activePlace, activeSlot}
 
 -- ---- the check
 
@@ -60,6 +61,24 @@ judged image cells marks header e =
     let arrays = and (eqb (length cells) (headerOf image .cells)) (eqb (length marks) (headerOf image .cells)) (told .1) in
     record { whole = record { good = told .0; long = eqb-true _ _ (arrays .0) }; marks-long = eqb-true _ _ (arrays .1); header-is = told .2 }
 
+-- a call's refusals begin with the drive's: what the check answers, the whole list answers
+module _ {A : Type 0} (refuse : ℕ → A) (rest : List (Bool × ℕ)) (accepted : A) where
+  refused-by : (good arrays : Bool) (header : Header) (n : ℕ) → Refused n ≡ cond (not good) (Refused 1) (cond (not arrays) (Refused 2) (Ready header)) → lowest refuse ((not good, 1) ∷ (not arrays, 2) ∷ rest) accepted ≡ refuse n
+  refused-by true true header n e = absurd (let z : _≡_ {A = ℕ} 0 1 = cc in omega arith)
+  refused-by true false header n e = let z : n ≡ 2 = cc in rw z
+  refused-by false arrays header n e = let z : n ≡ 1 = cc in rw z
+
+  passed-by : (good arrays : Bool) (header h : Header) → Ready h ≡ cond (not good) (Refused 1) (cond (not arrays) (Refused 2) (Ready header)) → lowest refuse ((not good, 1) ∷ (not arrays, 2) ∷ rest) accepted ≡ lowest refuse rest accepted
+  passed-by good arrays header h e = let told = judged-by good arrays header h e in rw (told .0, told .1)
+
+  pub check-refused : (image cells marks : List ℕ) (n : ℕ) → Refused n ≡ checkOf image cells marks → lowest refuse (driveTests image cells marks ++ rest) accepted ≡ refuse n
+  unfolding checkOf
+  check-refused image cells marks n e = refused-by (mapGood image) (wholeArrays image cells marks) (headerOf image) n e
+
+  pub check-passed : (image cells marks : List ℕ) (header : Header) → Ready header ≡ checkOf image cells marks → lowest refuse (driveTests image cells marks ++ rest) accepted ≡ lowest refuse rest accepted
+  unfolding checkOf
+  check-passed image cells marks header e = passed-by (mapGood image) (wholeArrays image cells marks) (headerOf image) header e
+
 -- ---- the active slot, by where a walk over the slots ended
 
 module _ (image cells : List ℕ) where
@@ -71,13 +90,19 @@ module _ (image cells : List ℕ) where
   unfolding activeSlot
   active-none e = let p = headerOf image .partitions in rw (e, le-ltb p p (omega arith))
 
--- ---- a partition's survey, at the fields that were read
+-- ---- a partition's part of the array, and what is found in it, at the fields that were read
 
-pub survey-is : (image cells : List ℕ) (i end : ℕ) (header : Header) (x : Entry) (may : Bool) (r : Survey) → header ≡ headerOf image → x ≡ entryOf image i → end ≡ endOf x → may ≡ zeroizable x
-    → r ≡ surveyOf may (header .bound) (take (end - x .first) (drop (x .first) cells))
-    → r ≡ surveyAt image cells i
-unfolding surveyAt
-survey-is image cells i end header x may r h e l z q = let n : end - x .first ≡ x .n = omega arith in cc
+pub part-is : (image cells : List ℕ) (i : ℕ) (x : Entry) → x ≡ entryOf image i → take (x .first + x .n - x .first) (drop (x .first) cells) ≡ cellsOf image cells i
+part-is image cells i x e = let n : x .first + x .n - x .first ≡ x .n = omega arith in rw (n, e)
+
+module _ (image cells : List ℕ) (i : ℕ) (header : Header) (x : Entry) (part : List ℕ) (may : Bool) (h : header ≡ headerOf image) (e : x ≡ entryOf image i) (p : part ≡ cellsOf image cells i) (z : may ≡ zeroizable x) where
+  pub survey-is : (r : Survey) → r ≡ surveyOf may (header .bound) part → r ≡ surveyAt image cells i
+  unfolding surveyAt
+  survey-is r q = cc
+
+  pub counted-here : (r : Bool) → r ≡ counted may (header .bound) part → r ≡ countedAt image cells i
+  unfolding countedAt
+  counted-here r q = cc
 
 -- ---- a slot's answer
 
@@ -93,6 +118,33 @@ slot-by image cells i x survey state e y q s = simp (rw e at y) (rw (← q) (ap 
 pub open-is : (image cells : List ℕ) (i : ℕ) (found : ActiveSlot) (there : Bool) → found ≡ slotAt image cells i → there ≡ present found → there ≡ openSlot image cells i
 unfolding openSlot
 open-is image cells i found there e p = p ∙ ap present e
+
+-- ---- the active slot depends on the cells of slots alone
+
+module _ (image cells cells′ : List ℕ) (same : (j : ℕ) → j < headerOf image .partitions → slot (entryOf image j) ≡ true → cellsOf image cells′ j ≡ cellsOf image cells j) where
+  slot-same : (j : ℕ) → j < headerOf image .partitions → slotAt image cells′ j ≡ slotAt image cells j
+  unfolding slotAt surveyAt
+  slot-same j l =
+      ⊎-elim
+      (λ (y : slot (entryOf image j) ≡ true). ap (λ (part : List ℕ). cond (slot (entryOf image j)) (slotIn (surveyOf (zeroizable (entryOf image j)) (headerOf image .bound) part .state) j) Absent) (same j l y))
+      (λ (n : slot (entryOf image j) ≡ false). simp n)
+      (decided (slot (entryOf image j)))
+
+  place-same : activePlace image cells′ ≡ activePlace image cells
+  unfolding openSlot
+  place-same = first-same (openSlot image cells′) (openSlot image cells) (headerOf image .partitions) (λ k l. ap present (slot-same k l))
+
+  pub active-same : activeSlot image cells′ ≡ activeSlot image cells
+  active-same =
+      let p = headerOf image .partitions in
+      let i = activePlace image cells in
+      ⊎-elim
+      (λ (y : ltb i p ≡ true). let l = ltb-true i p y in active-at image cells′ i l place-same ∙ slot-same i l ∙ sym (active-at image cells i l refl))
+      (λ (n : ltb i p ≡ false).
+      let w : First (openSlot image cells) 0 p i = first-tells (openSlot image cells) 0 p in
+      let end : i ≡ p = omega (arith, w .most, ltb-false i p n) in
+      active-none image cells′ (place-same ∙ end) ∙ sym (active-none image cells end))
+      (decided (ltb i p))
 
 -- ---- what it tells that the HEK is available
 

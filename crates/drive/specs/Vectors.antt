@@ -49,7 +49,7 @@ unfolding activeSlot openSlot slotAt firstFrom u16At
 none = refl
 
 refusals :
-    slotAnswerOf [] [] [] ∷ slotAnswerOf (one (entry 0 6 0 3)) (replicate 11 0) (replicate 12 0) ∷ slotAnswerOf (one (entry 0 6 0 3)) (replicate 12 0) (replicate 13 0) ∷ []
+    slotAnswerOf [] (0 ∷ []) [] ∷ slotAnswerOf (one (entry 0 6 0 3)) (replicate 11 0) (replicate 12 0) ∷ slotAnswerOf (one (entry 0 6 0 3)) (replicate 12 0) (replicate 13 0) ∷ []
     ≡ Refused 1 ∷ Refused 2 ∷ Refused 2 ∷ []
 unfolding checkOf wholeArrays mapGood every headerGood fillerGood entryGood placeGood allBelow u16At
 refusals = refl

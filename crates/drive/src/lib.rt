@@ -9,7 +9,7 @@ use partition::Survey;
 ghost use mathlib.Core.Path.{_≡_};
 ghost use Prim.Native.Nat.{_<_};
 ghost use Rattle.map.specs.Map.{headerOf};
-ghost use Rattle.drive.specs.Drive.{Whole, checkOf, surveyAt, surveyedOf, slotAt, present, slotNumber, available, activeSlot, slotAnswerOf};
+ghost use Rattle.drive.specs.Drive.{Whole, checkOf, cellsOf, surveyAt, countedAt, surveyedOf, slotAt, present, slotNumber, available, activeSlot, slotAnswerOf};
 
 // Refusal 1 or 2, or the header of a good map whose arrays have its length.
 pub enum Check {
@@ -53,6 +53,17 @@ pub fn check_drive(image: &[u8], cells: &[u32], marks: &[u32]) -> Check
     Check::Refused(2)
 }
 
+// The cells of partition `i` of a drive that was judged: the part of the array that starts where the
+// partition starts.
+fn part_of<'a>(image: &[u8], cells: &'a [u32], i: u32) -> &'a [u32]
+    requires { ⌜ Whole (now image) (now cells) × (i < headerOf (now image) .partitions) ⌝ }
+    ensures { λ r. ⌜ now r ≡ cellsOf (now (image .entry)) (now (cells .entry)) i ⌝ }
+{
+    let x = map::read_entry(image, i);
+    let first = x.first as usize;
+    &cells[first..first + (x.n as usize)]
+}
+
 // The state and short pairs of partition `i` of a drive that was judged.
 pub fn survey_at(image: &[u8], cells: &[u32], i: u32) -> Survey
     requires { ⌜ Whole (now image) (now cells) × (i < headerOf (now image) .partitions) ⌝ }
@@ -60,10 +71,22 @@ pub fn survey_at(image: &[u8], cells: &[u32], i: u32) -> Survey
 {
     let header = map::read_header(image);
     let x = map::read_entry(image, i);
-    let first = x.first as usize;
-    let end = map::end_of(x);
     partition::survey_cells(
-        &cells[first..end],
+        part_of(image, cells, i),
+        header.bound as u64,
+        map::is_zeroizable(x),
+    )
+}
+
+// Whether partition `i` of a drive that was judged is counted as zeroized.
+pub fn counted_at(image: &[u8], cells: &[u32], i: u32) -> bool
+    requires { ⌜ Whole (now image) (now cells) × (i < headerOf (now image) .partitions) ⌝ }
+    ensures { λ r. ⌜ r ≡ countedAt (now (image .entry)) (now (cells .entry)) i ⌝ }
+{
+    let header = map::read_header(image);
+    let x = map::read_entry(image, i);
+    partition::is_counted(
+        part_of(image, cells, i),
         header.bound as u64,
         map::is_zeroizable(x),
     )

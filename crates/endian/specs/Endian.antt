@@ -1,9 +1,11 @@
 -- Document 01: "A little-endian image", and "each a little-endian u32". A byte past the end reads as 0. Assumes nothing.
-use Prim.Native.Nat.{ℕ, _+_, _*_, _≤_}
-use mathlib.Core.Path.{_≡_}
-use mathlib.Core.List.{List}
+use Prim.Native.Nat.{ℕ, suc, _+_, _*_, _/_, _%_, _≤_}
+use mathlib.Core.Path.{_≡_, sym, ap, _∙_}
+use mathlib.Core.List.{List, [], _∷_, _++_}
 use native.Mathlib.Omega.{arith}
-use lib.ListN.{length, getD, List·getD-eq-default}
+use lib.ListN.{length, getD, set, take, drop, take-append-drop, List·getD-eq-default}
+use lib.Seq.{sets-eq, getD-drop}
+use Rattle.laws.specs.Put.{Put, put-is}
 
 -- the byte at k
 abbrev pub byteAt : List ℕ → ℕ → ℕ
@@ -16,6 +18,39 @@ u16At s k = byteAt s k + 256 * byteAt s (k + 1)
 -- the u32 at k, low half first
 unfoldable pub u32At : List ℕ → ℕ → ℕ
 u32At s k = u16At s k + 65536 * u16At s (k + 2)
+
+-- the four bytes of a u32, the lowest first
+abbrev pub bytes4 : ℕ → List ℕ
+bytes4 v = v % 256 ∷ v / 256 % 256 ∷ v / 65536 % 256 ∷ v / 16777216 ∷ []
+
+-- what is written reads back
+pub reads-back : (v : ℕ) (rest : List ℕ) → u32At (bytes4 v ++ rest) 0 ≡ v
+unfolding u32At u16At
+reads-back v rest = omega arith
+
+-- a number is read from its four bytes
+u16-drop : (s : List ℕ) (k j : ℕ) → u16At (drop k s) j ≡ u16At s (k + j)
+unfolding u16At
+u16-drop s k j =
+    let e : k + (j + 1) ≡ k + j + 1 = omega arith in
+    rw (getD-drop k s j 0, getD-drop k s (j + 1) 0, e)
+
+pub u32-at : (s : List ℕ) (k v : ℕ) → take 4 (drop k s) ≡ bytes4 v → u32At s k ≡ v
+unfolding u32At
+u32-at s k v e =
+    let here : drop k s ≡ bytes4 v ++ drop 4 (drop k s) = sym (take-append-drop 4 (drop k s)) ∙ ap (λ (l : List ℕ). l ++ drop 4 (drop k s)) e in
+    let zero-in : k + 0 ≡ k = omega arith in
+    let low : u16At (drop k s) 0 ≡ u16At s k = u16-drop s k 0 ∙ ap (u16At s) zero-in in
+    rw (← low, ← u16-drop s k 2, here) (reads-back v (drop 4 (drop k s)))
+
+-- four bytes stored one after the other
+pub stored : (out : List ℕ) (at v : ℕ) → at + 4 ≤ length out
+    → Put at (bytes4 v) out (set (set (set (set out at (v % 256)) (at + 1) (v / 256 % 256)) (at + 2) (v / 65536 % 256)) (at + 3) (v / 16777216)) (at + 4)
+stored out at v h =
+    let e1 : at + 1 ≡ suc at = omega arith in
+    let e2 : at + 2 ≡ suc (suc at) = omega arith in
+    let e3 : at + 3 ≡ suc (suc (suc at)) = omega arith in
+    put-is at (bytes4 v) out h (rw (e1, e2, e3) (sets-eq (bytes4 v) out at h))
 
 -- past the end all read as 0
 pub past-byte : (s : List ℕ) (k : ℕ) → length s ≤ k → byteAt s k ≡ 0

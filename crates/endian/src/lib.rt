@@ -1,8 +1,11 @@
-// Little-endian numbers in a slice of bytes. A byte past the end reads as 0, so that each function
-// answers for every slice and place. The definitions are in `specs/Endian`. It rests on the
-// language's library alone.
+// Little-endian numbers in a slice of bytes, read and written. A byte past the end reads as 0, so
+// that each reader answers for every slice and place; the writer asks for room. The definitions are
+// in `specs/Endian`. It rests on `laws` alone.
 ghost use mathlib.Core.Path.{_≡_};
-ghost use Rattle.endian.specs.Endian.{byteAt, u16At, u32At};
+ghost use Prim.Native.Nat.{_+_, _≤_};
+ghost use lib.ListN.{length};
+ghost use Rattle.laws.specs.Put.{Put};
+ghost use Rattle.endian.specs.Endian.{byteAt, u16At, u32At, bytes4};
 
 // The byte at `k`.
 pub fn byte_at(bytes: &[u8], k: usize) -> u8
@@ -33,4 +36,16 @@ pub fn u32_at(bytes: &[u8], k: usize) -> u32
     let low = u16_at(bytes, k);
     let high = u16_at(bytes, k + 2);
     (low as u32) + 65536 * (high as u32)
+}
+
+// Writes the four bytes of `v` into the buffer from `at` on, and answers the place past them.
+pub fn put_u32(out: &mut [u8], at: usize, v: u32) -> usize
+    requires { ⌜ at + 4 ≤ length (now out) ⌝ }
+    ensures { λ r. ⌜ Put at (bytes4 v) (now (out .entry)) (now (out .exit)) r ⌝ }
+{
+    out[at] = (v % 256) as u8;
+    out[at + 1] = (v / 256 % 256) as u8;
+    out[at + 2] = (v / 65536 % 256) as u8;
+    out[at + 3] = (v / 16777216) as u8;
+    at + 4
 }

@@ -3,14 +3,18 @@
 --     only-of-v, only-free, stuck-stays   it adds only fuses of v, and only unstuck ones
 --     mono        it is monotone in the cell and in v
 --     absorbs     all ones burned into any c with s ⊆ c ⊆ s ∪ ¬stuck leave what all ones burned into s leave
+--     burn-apart  it touches its word alone
 --     fits        a cell stays a cell of 32 fuses
 --     ones-*      how many are set: the language's count, at most 64, monotone; so a pair only ever stops being short
-use Prim.Native.Nat.{ℕ, _+_, _/_, _%_, _^_, _≤_, _<_}
+use Prim.Native.Nat.{ℕ, _+_, _-_, _/_, _%_, _^_, _≤_, _<_}
 use mathlib.Core.Path.{_≡_, sym, ap, _∙_}
 use mathlib.Core.Bool.{Bool, true, false}
 use mathlib.Core.List.{List}
 use native.Mathlib.Nat.{lt-of-le-of-lt}
 use native.Mathlib.Omega.{arith}
+use lib.ListN.{take, drop, set}
+use lib.Seq.{drop-set-lt, drop-set-add, take-set-le}
+use mathlib.Core.Logic.{_⊎_, inl, inr}
 use lib.Bits.{bitAnd, bitOr, or-lt, and-le-r}
 use lib.Count.{ones}
 use lib.Pow.{ones-sub-lt}
@@ -50,6 +54,22 @@ module _ (stuck : ℕ) where
 pub burn-pair : (marks : List ℕ) (k v : ℕ) (cells : List ℕ) {mid after : List ℕ} → mid ≡ burnCell marks k (v % 2 ^ 32) cells → after ≡ burnCell marks (k + 1) (v / 2 ^ 32) mid → after ≡ burnWord marks k true v cells
 unfolding burnWord
 burn-pair marks k v cells p q = q ∙ ap (burnCell marks (k + 1) (v / 2 ^ 32)) p
+
+-- ---- a burn touches its word alone: the n cells from f on stay where the word ends before them or starts past them
+
+module _ (f n : ℕ) where
+  set-apart : (l : List ℕ) (k a : ℕ) → (k < f) ⊎ (f + n ≤ k) → take n (drop f (set l k a)) ≡ take n (drop f l)
+  set-apart l k a (inl h) = ap (take n) (drop-set-lt f l k a h)
+  set-apart l k a (inr h) =
+      let e : k ≡ f + (k - f) = omega arith in
+      ap (λ (j : ℕ). take n (drop f (set l j a))) e ∙ ap (take n) (drop-set-add f l (k - f) a) ∙ take-set-le n (drop f l) (k - f) a (omega arith)
+
+  pub burn-apart : (marks : List ℕ) (k : ℕ) (wide : Bool) (v : ℕ) (cells : List ℕ) → (k + cellsIn wide ≤ f) ⊎ (f + n ≤ k) → take n (drop f (burnWord marks k wide v cells)) ≡ take n (drop f cells)
+  unfolding burnWord burnCell
+  burn-apart marks k true v cells (inl h) = set-apart _ (k + 1) _ (inl (omega arith)) ∙ set-apart cells k _ (inl (omega arith))
+  burn-apart marks k true v cells (inr h) = set-apart _ (k + 1) _ (inr (omega arith)) ∙ set-apart cells k _ (inr h)
+  burn-apart marks k false v cells (inl h) = set-apart cells k _ (inl (omega arith))
+  burn-apart marks k false v cells (inr h) = set-apart cells k _ (inr h)
 
 -- a word has at least one cell
 pub cells-least : (wide : Bool) → 1 ≤ cellsIn wide

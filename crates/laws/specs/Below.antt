@@ -146,14 +146,29 @@ first-tells f i zero = record {
 }
 first-tells f i (suc m) = first-turn f i m (f i) refl (firstFrom f (suc i) m) (first-tells f (suc i) m)
 
+-- it is at most any other
+pub first-least : (f : ℕ → Bool) (n k : ℕ) → k < n → f k ≡ true → firstBelow f n ≤ k
+first-least f n k l h =
+    let r = firstFrom f 0 n in
+    let w : First f 0 n r = first-tells f 0 n in
+    ltb-false k r (not-yes (ltb k r) (λ t. let a = ltb-true k r t in false≢true (sym (w .before k (omega arith) a) ∙ h)))
+
 -- there is only one lowest
 pub first-is : (f : ℕ → Bool) (n k : ℕ) → k < n → f k ≡ true → ((j : ℕ) → j < k → f j ≡ false) → firstBelow f n ≡ k
 first-is f n k l h o =
     let r = firstFrom f 0 n in
     let w : First f 0 n r = first-tells f 0 n in
     let not-under : ltb r k ≡ false = not-yes (ltb r k) (λ t. let a = ltb-true r k t in false≢true (sym (o r a) ∙ w .at (omega arith))) in
-    let not-over : ltb k r ≡ false = not-yes (ltb k r) (λ t. let a = ltb-true k r t in false≢true (sym (w .before k (omega arith) a) ∙ h)) in
-    omega (arith, ltb-false r k not-under, ltb-false k r not-over)
+    omega (arith, ltb-false r k not-under, first-least f n k l h)
+
+-- two tests that agree below n have the same lowest
+same-from : (f g : ℕ → Bool) (i m : ℕ) → ((k : ℕ) → k < i + m → f k ≡ g k) → firstFrom f i m ≡ firstFrom g i m
+unfolding firstFrom
+same-from f g i zero e = refl
+same-from f g i (suc m) e = rw (e i (omega arith), same-from f g (suc i) m (λ k l. e k (omega arith)))
+
+pub first-same : (f g : ℕ → Bool) (n : ℕ) → ((k : ℕ) → k < n → f k ≡ g k) → firstBelow f n ≡ firstBelow g n
+first-same f g n h = same-from f g 0 n (λ k l. h k (omega arith))
 
 -- ---- one after the other
 

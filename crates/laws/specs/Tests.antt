@@ -1,10 +1,13 @@
 -- What a Boolean test tells, once for every layer. Assumes nothing.
-use Prim.Native.Nat.{ℕ, zero, suc}
-use mathlib.Core.Path.{_≡_, refl, sym}
-use mathlib.Core.Logic.{_⊎_, inl, inr}
+use Prim.Native.Nat.{ℕ, zero, suc, _<_}
+use mathlib.Core.Path.{_≡_, refl, sym, _∙_}
+use mathlib.Core.Logic.{_⊎_, inl, inr, ⊎-elim}
 use mathlib.Core.List.{List, [], _∷_}
 use mathlib.Core.Bool.{Bool, true, false, _&&_, _||_, not, false≢true}
+use native.Mathlib.Omega.{arith}
+use lib.Dec.{ltb}
 use lib.ListN.{getD}
+use borrow.Author.Tests.{ltb-true, ltb-false}
 
 -- a test passes or fails
 pub decided : (b : Bool) → (b ≡ true) ⊎ (b ≡ false)
@@ -31,6 +34,28 @@ pub not-both : (a b : Bool) → not (a && b) ≡ true → a ≡ true → b ≡ f
 not-both true true e h = sym e
 not-both true false e h = refl
 not-both false b e h = absurd (false≢true h)
+
+-- the first of two tests that do not both pass, where the second passes
+pub not-first : (a b : Bool) → (a && b) ≡ false → b ≡ true → a ≡ false
+not-first true b e h = absurd (false≢true (sym e ∙ h))
+not-first false b e h = refl
+
+-- neither of two tests
+pub neither : (a b : Bool) → (a || b) ≡ false → (a ≡ false) × (b ≡ false)
+neither false b e = (refl, e)
+neither true b e = absurd (false≢true (sym e))
+
+-- two numbers are in one of three orders
+pub ordered : (i j : ℕ) → (i < j) ⊎ ((j < i) ⊎ (i ≡ j))
+ordered i j =
+    ⊎-elim
+    (λ (t : ltb i j ≡ true). inl (ltb-true i j t))
+    (λ (n : ltb i j ≡ false).
+    ⊎-elim
+    (λ (t : ltb j i ≡ true). inr (inl (ltb-true j i t)))
+    (λ (m : ltb j i ≡ false). inr (inr (omega (arith, ltb-false i j n, ltb-false j i m))))
+    (decided (ltb j i)))
+    (decided (ltb i j))
 
 -- ---- a list of tests
 

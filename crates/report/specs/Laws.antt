@@ -23,7 +23,7 @@ use Rattle.drive.specs.Laws.{available-tells}
 use Rattle.drive.specs.Drive.{cellsOf, surveyAt, activeSlot, slotNumber, available}
 use Rattle.map.specs.Map.{headerOf, entryOf, mapGood}
 use Rattle.text.specs.Text.{text, decimal}
-use Rattle.text.specs.Put.{Put}
+use Rattle.laws.specs.Put.{Put}
 use Rattle.report.specs.declared.Reading.{Reading}
 use Rattle.report.specs.declared.Reading.the-variants.{Drive, Refused}
 use Rattle.report.specs.Status.{mapLength, imageOf, cellCount, numberAt, inputCells, readingOf, lineOf, hekLine, lineAt, tableOf, printed, statusOf, Printed}

@@ -12,7 +12,7 @@ ghost use lib.ListN.{length, drop};
 ghost use Rattle.laws.specs.Below.{joinBelow};
 ghost use Rattle.drive.specs.Drive.{Whole};
 ghost use Rattle.report.specs.Status.{imageOf, numberAt, inputCells, readingOf, stateName, lineOf, hekLine, tableOf, refusedLine, Printed};
-ghost use Rattle.text.specs.Put.{Put};
+ghost use Rattle.laws.specs.Put.{Put};
 
 // What the input is: a whole drive, or refused with its number.
 pub enum Reading {

@@ -12,7 +12,7 @@ use lib.Dec.{ltb}
 use borrow.Author.Tests.{ltb-true}
 use Rattle.laws.specs.Tests.{decided}
 use Rattle.text.specs.Text.{digit, digits, zeros, decimal}
-use Rattle.text.specs.Put.{Put}
+use Rattle.laws.specs.Put.{Put}
 
 -- the next place after a piece of at most k bytes
 pub next-most : {at next : ℕ} {t before after : List ℕ} (k : ℕ) → length t ≤ k → Put at t before after next → next ≤ at + k

@@ -5,7 +5,7 @@ ghost use Prim.Native.Nat.{_+_, _≤_};
 ghost use mathlib.Core.Path.{_≡_};
 ghost use lib.ListN.{length};
 ghost use Rattle.text.specs.Text.{digit, zeros, decimal};
-ghost use Rattle.text.specs.Put.{Put};
+ghost use Rattle.laws.specs.Put.{Put};
 
 // Writes `t` into the buffer from `at` on, and answers the place past it.
 pub fn put(out: &mut [u8], at: usize, t: &[u8]) -> usize

@@ -8,7 +8,7 @@ use mathlib.Core.List.{List}
 use native.Mathlib.Omega.{arith}
 use native.Mathlib.Nat.{eq-or-lt-of-le}
 use lib.Dec.{eqb, leb, ltb}
-use borrow.Author.Tests.{leb-true, ltb-true, ltb-false, eqb-true, eqb-false, lt-ltb, le-ltb}
+use borrow.Author.Tests.{leb-true, ltb-true, ltb-false, eqb-true, eqb-false, lt-ltb, le-ltb, le-leb}
 use Rattle.laws.specs.Tests.{decided, not-yes, and}
 use Rattle.laws.specs.Below.{first-tells, first-is}
 use Rattle.map.specs.declared.Header.{Header}
@@ -25,6 +25,10 @@ use Rattle.word.specs.Word.{holds, wordBy, wordIn, holdsAt, partitionOf,
 
 pub held : (x : Entry) (cell : ℕ) → holds x cell ≡ true → (x .first ≤ cell) × (cell < endOf x)
 held x cell h = let r = and (leb (x .first) cell) (ltb cell (endOf x)) h in (leb-true _ _ (r .0), ltb-true _ _ (r .1))
+
+-- and back
+pub holds-at : (x : Entry) (cell : ℕ) → x .first ≤ cell → cell < endOf x → holds x cell ≡ true
+holds-at x cell l h = rw (le-leb _ _ l, lt-ltb _ _ h)
 
 pub word-by : (x : Entry) (i cell end last : ℕ) → end ≡ endOf x → last ≡ tail (zeroizable x) → wordIn x i cell ≡ wordBy (software x) last (end - cell) i cell
 unfolding wordIn

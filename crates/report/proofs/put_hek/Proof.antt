@@ -3,7 +3,7 @@ use mathlib.Core.Path.{sym, _∙_}
 use native.Mathlib.Omega.{arith}
 use borrow.Author.Tests.{not-true, not-false}
 use borrow.Author.Needs.{needs}
-use Rattle.text.specs.Put.{then}
+use Rattle.laws.specs.Put.{then}
 use Rattle.report.specs.Laws.{hek-none, hek-some}
 use Rattle.report.proofs.put_hek.Statement.{statement}
 use Rattle.report.proofs.put_hek.Tie as tie

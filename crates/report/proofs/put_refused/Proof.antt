@@ -1,6 +1,6 @@
 -- `report::put_refused` meets its contract: three pieces are one line. Assumes nothing.
 use borrow.Author.Needs.{needs}
-use Rattle.text.specs.Put.{then}
+use Rattle.laws.specs.Put.{then}
 use Rattle.report.proofs.put_refused.Statement.{statement}
 use Rattle.report.proofs.put_refused.Tie as tie
 

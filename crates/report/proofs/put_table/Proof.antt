@@ -7,7 +7,7 @@ use Rattle.map.specs.Map.{headerOf}
 use Rattle.laws.specs.Below.{joinBelow, join-step}
 use Rattle.map.specs.declared.Header.{Header}
 use Rattle.map.specs.Laws.{map-header}
-use Rattle.text.specs.Put.{Put, then, nothing, retext}
+use Rattle.laws.specs.Put.{Put, then, nothing, retext}
 use Rattle.report.specs.Status.{lineAt}
 use Rattle.report.specs.Laws.{line-is, table-is}
 use Rattle.report.proofs.put_table.Statement.{statement}

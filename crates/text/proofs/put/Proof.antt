@@ -1,6 +1,6 @@
 -- `text::put` meets its contract: a copy into the buffer's part from `at` on. Assumes nothing.
 use borrow.Author.Needs.{needs}
-use Rattle.text.specs.Put.{copied}
+use Rattle.laws.specs.Put.{copied}
 use Rattle.text.proofs.put.Statement.{statement}
 use Rattle.text.proofs.put.Tie as tie
 

@@ -1,4 +1,4 @@
--- Text written into a lent buffer, one piece after the other. Assumes nothing.
+-- Bytes written into a lent buffer, one piece after the other: text, and the fields of a response. Assumes nothing.
 use Prim.Native.Nat.{ℕ, _+_, _-_, _≤_}
 use mathlib.Core.Path.{_≡_, refl, ap, subst, _∙_}
 use mathlib.Core.List.{List, [], _++_, append-assoc, append-nil}
@@ -20,6 +20,12 @@ pub record Put (at : ℕ) (t before after : List ℕ) (next : ℕ) : Type 0 wher
 
 put-length : (at : ℕ) (t before : List ℕ) → at + length t ≤ length before → length (putAt at t before) ≡ length before
 put-length at t before h = simp (length-append, length-take, length-drop) (omega arith)
+
+-- t in its place
+pub put-is : (at : ℕ) (t before : List ℕ) {after : List ℕ} → at + length t ≤ length before → after ≡ take at before ++ t ++ drop (at + length t) before → Put at t before after (at + length t)
+put-is at t before h e =
+    let bytes = e ∙ append-assoc (take at before) t (drop (at + length t) before) in
+    record { room = h; same = ap length bytes ∙ put-length at t before h; is-next = refl; bytes = bytes }
 
 -- two pieces, one after the other, are one piece
 module _ (at : ℕ) (t u before : List ℕ) (h : at + length t ≤ length before) where
