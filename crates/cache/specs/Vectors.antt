@@ -1,0 +1,30 @@
+-- The cache's places, by computation. Assumes nothing.
+use mathlib.Core.Path.{_≡_, refl}
+use mathlib.Core.Bool.{false}
+use mathlib.Core.List.{[], _∷_, map}
+use lib.ListN.{replicate}
+use Rattle.laws.specs.Below.{firstFrom}
+use Rattle.cache.specs.Cache.{Cache, cacheOf, isAt, lowestPlace, hasPlace, placed, loaded, freed, empty}
+use Rattle.cache.specs.declared.Sought.the-variants.{Empty, Held, Tag}
+
+-- places 0, 2 and 3 held, 2 and 3 under the same tag; an empty place's tag counts for nothing
+abbrev some : Cache
+some = cacheOf (1 ∷ 0 ∷ 1 ∷ 1 ∷ replicate 12 0) (7 ∷ 9 ∷ 8 ∷ 8 ∷ replicate 12 0)
+
+lowest : map (lowestPlace some) (Empty ∷ Held ∷ Tag 8 ∷ Tag 9 ∷ []) ≡ 1 ∷ 0 ∷ 2 ∷ 16 ∷ []
+unfolding isAt firstFrom
+lowest = refl
+
+-- a full cache has no empty place, an empty one no held place
+has : hasPlace (cacheOf (replicate 16 1) (replicate 16 5)) Empty ∷ hasPlace empty Held ∷ hasPlace empty (Tag 0) ∷ [] ≡ false ∷ false ∷ false ∷ []
+unfolding isAt firstFrom
+has = refl
+
+-- a load, and an unload of the lower of two
+load : loaded 1 6 some ≡ cacheOf (1 ∷ 1 ∷ 1 ∷ 1 ∷ replicate 12 0) (7 ∷ 6 ∷ 8 ∷ 8 ∷ replicate 12 0)
+unfolding placed
+load = refl
+
+unload : freed 2 some ≡ cacheOf (1 ∷ 0 ∷ 0 ∷ 1 ∷ replicate 12 0) (7 ∷ 9 ∷ 0 ∷ 8 ∷ replicate 12 0)
+unfolding placed
+unload = refl

@@ -1,0 +1,3 @@
+pub mod Chksum
+pub mod Laws
+pub mod Vectors

@@ -1,0 +1,4 @@
+pub mod Fields
+pub mod Request
+pub mod Laws
+pub mod Vectors

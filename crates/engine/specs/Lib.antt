@@ -1,0 +1,3 @@
+pub mod Engine
+pub mod Laws
+pub mod Vectors
