@@ -1,0 +1,21 @@
+-- `direct::is_slot_in_use` meets its contract: at the entry that was read. Assumes nothing.
+use borrow.Author.Needs.{needs}
+use Rattle.direct.specs.Laws.{in-use-is}
+use Rattle.direct.proofs.is_slot_in_use.Statement.{statement}
+use Rattle.direct.proofs.is_slot_in_use.Tie as tie
+
+read-entry-requires : tie.Need-read-entry-requires
+read-entry-requires c κs = search needs
+
+is-slot-requires : tie.Need-is-slot-requires
+is-slot-requires c κs = search needs
+
+has-place-requires : tie.Need-has-place-requires
+has-place-requires c κs = search needs
+
+returns : tie.Need-returns
+returns c = in-use-is _ _ (c .before .before .read-entry .ensures) _ (c .before .is-slot .ensures) (c .has-place .ensures)
+
+pub is-slot-in-use-spec : {M : Type 1} → statement M
+is-slot-in-use-spec =
+    tie.close (tie.spec read-entry-requires is-slot-requires has-place-requires returns)

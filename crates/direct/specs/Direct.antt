@@ -1,0 +1,131 @@
+-- Document 01, "Direct commands": what a command on a word answers, and the cells that it leaves. Assumes nothing.
+use Prim.Native.Nat.{ℕ, _+_, _-_, _^_, _≤_, _<_}
+use mathlib.Core.Path.{_≡_}
+use mathlib.Core.Bool.{Bool, true, false, cond, not, _&&_, _||_}
+use mathlib.Core.List.{List, [], _∷_, _++_}
+use lib.Dec.{eqb, leb}
+use lib.ListN.{length, getD}
+use lib.Bits.{bitOr}
+use Rattle.laws.specs.Refusals.{lowest}
+use Rattle.map.specs.Map.{headerOf, entryOf, lifeCycle, zeroizable, secret, slot}
+use Rattle.fuse.specs.Fuse.{pairOf, short, cellsIn, burnWord}
+use Rattle.word.specs.declared.Role.{Role}
+use Rattle.word.specs.declared.Role.the-variants.{Data, Digest, Indicator}
+use Rattle.word.specs.declared.Lookup.{Lookup}
+use Rattle.word.specs.declared.Lookup.the-variants.{Word, Nothing}
+use Rattle.word.specs.Word.{wordAt}
+use Rattle.drive.specs.Drive.{Whole, driveTests, countedAt}
+use Rattle.cache.specs.Cache.{Cache, hasPlace}
+use Rattle.cache.specs.declared.Sought.the-variants.{Held}
+use Rattle.direct.specs.declared.Command.{Command}
+use Rattle.direct.specs.declared.Command.the-variants.{Read, Write, Zeroize}
+use Rattle.direct.specs.declared.Answer.{Answer}
+use Rattle.direct.specs.declared.Answer.the-variants.{Word as Shown, Done, Withheld, Refused}
+
+-- "each naming a word": its first cell
+abbrev pub cellOf : Command → ℕ
+cellOf (Read cell) = cell
+cellOf (Write cell value) = cell
+cellOf (Zeroize cell) = cell
+
+-- the word that starts at a cell: a pair or one cell
+abbrev pub wordOf : (wide : Bool) (at : ℕ) (cells : List ℕ) → ℕ
+wordOf true at cells = pairOf (getD cells at 0) (getD cells (at + 1) 0)
+wordOf false at cells = getD cells at 0
+
+-- ---- refusals 8, 9 and 10 of a command on the word of partition i that starts at its cell
+
+abbrev pub isData : Role → Bool
+isData Data = true
+isData Digest = false
+isData Indicator = false
+
+-- 8, "the command may not touch it". READ: "Every word of a secret partition". WRITE: "digest .., indicator, life cycle, a partition
+-- counted as zeroized, a value over 32 bits for a 32-bit word". ZEROIZE: "any word of a zeroizable partition, else 8"
+unfoldable pub forbidden : Command → (image cells : List ℕ) (i : ℕ) → Role → (wide : Bool) → Bool
+forbidden (Read cell) image cells i role wide = secret (entryOf image i)
+forbidden (Write cell value) image cells i role wide =
+    not (isData role) || lifeCycle (entryOf image i) || countedAt image cells i || (not wide && leb (2 ^ 32) value)
+forbidden (Zeroize cell) image cells i role wide = not (zeroizable (entryOf image i))
+
+-- 9, "WRITE would clear a fuse": "the value lacks a set fuse"
+unfoldable pub clears : Command → (cells : List ℕ) (wide : Bool) → Bool
+clears (Read cell) cells wide = false
+clears (Write cell value) cells wide = not (eqb (bitOr (wordOf wide cell cells) value) value)
+clears (Zeroize cell) cells wide = false
+
+-- 10, "slot change while keys are held": "WRITE, ZEROIZE .. on a slot are refused (10) while any place is held"
+abbrev pub slotInUse : (image : List ℕ) (i : ℕ) → Cache → Bool
+slotInUse image i cache = slot (entryOf image i) && hasPlace cache Held
+
+unfoldable pub changesSlot : Command → (image : List ℕ) (i : ℕ) → Cache → Bool
+changesSlot (Read cell) image i cache = false
+changesSlot (Write cell value) image i cache = slotInUse image i cache
+changesSlot (Zeroize cell) image i cache = slotInUse image i cache
+
+-- 7, "the cell starts no word"; then 8, 9 and 10
+abbrev pub wordTests : Lookup → Command → (image cells : List ℕ) → Cache → List (Bool × ℕ)
+wordTests Nothing command image cells cache = (true, 7) ∷ []
+wordTests (Word i role wide) command image cells cache =
+    (forbidden command image cells i role wide, 8)
+    ∷ (clears command cells wide, 9)
+    ∷ (changesSlot command image i cache, 10)
+    ∷ []
+
+abbrev pub directTests : (image cells marks : List ℕ) → Cache → Command → List (Bool × ℕ)
+directTests image cells marks cache command =
+    driveTests image cells marks ++ wordTests (wordAt image (cellOf command)) command image cells cache
+
+-- ---- what a command that is not refused leaves
+
+-- what is burned: "WRITE burns a data word", "ZEROIZE burns all ones"; READ burns nothing
+unfoldable pub cellsAfter : Command → (wide : Bool) (marks cells : List ℕ) → List ℕ
+cellsAfter (Read cell) wide marks cells = cells
+cellsAfter (Write cell value) wide marks cells = burnWord marks cell wide value cells
+cellsAfter (Zeroize cell) wide marks cells = burnWord marks cell wide (2 ^ 64 - 1) cells
+
+-- what is answered of the word as it now stands. WRITE: "or done in a secret partition". ZEROIZE: "in a secret partition only if its
+-- ones reach B, otherwise withheld"
+abbrev pub answerOf : Command → (secret : Bool) (bound word : ℕ) → Answer
+answerOf (Read cell) secret bound word = Shown word
+answerOf (Write cell value) secret bound word = cond secret Done (Shown word)
+answerOf (Zeroize cell) secret bound word = cond (secret && short bound word) Withheld (Shown word)
+
+pub record Outcome : Type 0 where
+  pub answer : Answer
+  pub cells : List ℕ
+
+abbrev pub left : Answer → (cells : List ℕ) → Outcome
+left answer cells = record { answer = answer; cells = cells }
+
+-- the word is shown as it now stands
+abbrev pub shownOf : Command → (image : List ℕ) (i : ℕ) (wide : Bool) (cells : List ℕ) → Outcome
+shownOf command image i wide cells = left (answerOf command (secret (entryOf image i)) (headerOf image .bound) (wordOf wide (cellOf command) cells)) cells
+
+-- a cell that starts no word is refused before
+unfoldable pub carriedOut : Lookup → Command → (image cells marks : List ℕ) → Outcome
+carriedOut Nothing command image cells marks = left (Refused 7) cells
+carriedOut (Word i role wide) command image cells marks = shownOf command image i wide (cellsAfter command wide marks cells)
+
+-- a refusal leaves the cells as they were
+abbrev pub refusedOf : (cells : List ℕ) (number : ℕ) → Outcome
+refusedOf cells number = left (Refused number) cells
+
+-- a direct command
+unfoldable pub directOf : (image cells marks : List ℕ) → Cache → Command → Outcome
+directOf image cells marks cache command =
+    lowest (refusedOf cells) (directTests image cells marks cache command) (carriedOut (wordAt image (cellOf command)) command image cells marks)
+
+-- ---- below the entry point
+
+-- a command on the word of partition i that starts at its cell
+unfoldable pub onWord : (image cells marks : List ℕ) → Cache → Command → (i : ℕ) → Role → (wide : Bool) → Outcome
+onWord image cells marks cache command i role wide =
+    lowest (refusedOf cells) (wordTests (Word i role wide) command image cells cache) (carriedOut (Word i role wide) command image cells marks)
+
+-- what it asks for: a drive that was judged, and a word that lies in it
+pub record Named (image cells marks : List ℕ) (command : Command) (i : ℕ) (wide : Bool) : Type 0 where
+  pub whole : Whole image cells
+  pub marks-long : length marks ≡ length cells
+  pub partition : i < headerOf image .partitions
+  pub within : cellOf command + cellsIn wide ≤ length cells

@@ -1,0 +1,3 @@
+pub mod Direct
+pub mod Laws
+pub mod Vectors

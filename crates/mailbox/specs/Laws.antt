@@ -1,0 +1,177 @@
+-- The mailbox's laws. Assumes nothing.
+use Prim.Native.Nat.{ℕ, _≤_, _<_}
+use mathlib.Core.Path.{_≡_, refl, sym, ap, _∙_}
+use mathlib.Core.Bool.{Bool, true, false, not, false≢true}
+use mathlib.Core.List.{List, _∷_, _++_}
+use lib.Dec.{eqb, ltb}
+use lib.ListN.{length, drop}
+use borrow.Author.Tests.{lt-ltb, le-ltb, ltb-false, eqb-true, not-false}
+use Rattle.laws.specs.Tests.{neither}
+use Rattle.laws.specs.Put.{Put}
+use Rattle.endian.specs.Endian.{bytes4}
+use Rattle.chksum.specs.Chksum.{closed}
+use Rattle.chksum.specs.Laws.{closed-is}
+use Rattle.laws.specs.Refusals.{lowest, numberOf, number-refuses, number-passes, accepted-tells, ascendFrom, Given, lowest-tells}
+use Rattle.map.specs.declared.Header.{Header}
+use Rattle.drive.specs.Drive.{driveTests, activeSlot, available, slotNumber, checkOf}
+use Rattle.drive.specs.declared.ActiveSlot.{ActiveSlot}
+use Rattle.drive.specs.declared.Check.the-variants.{Ready, Refused}
+use Rattle.drive.specs.Laws.{check-refused, check-passed}
+use Rattle.cache.specs.Cache.{Cache, lowestPlace, hasPlace, places}
+use Rattle.cache.specs.declared.Sought.the-variants.{Empty, Tag}
+use Rattle.codec.specs.declared.Command.{Command}
+use Rattle.codec.specs.declared.Command.the-variants.{Clkc, Klod, Kunl, Fsta, Unknown}
+use Rattle.codec.specs.Fields.{Cmd-timeout, Place, Active-slot, Hek-available, requestFields, responseFields, numberAt, tagAt, commandOf}
+use Rattle.codec.specs.Request.{requestTests}
+use Rattle.codec.specs.Laws.{response-reads}
+use Rattle.mailbox.specs.declared.Action.{Action}
+use Rattle.mailbox.specs.declared.Action.the-variants.{Refuse, Clear, Load, Unload, Status}
+use Rattle.mailbox.specs.declared.Reply.{Reply}
+use Rattle.mailbox.specs.Mailbox.{loadOf, unloadOf, loadAction, unloadAction, ownTests, ownAction, accepted, buffersBad, mailboxTests, actionOf, refusing, commandIn, cacheAfter, blockAfter, ownBytes, valueIn, responseAfter, replyOf, left, outcomeOf, mailboxOf, Fits, hekNumber}
+
+-- ---- what KLOD and KUNL do, by their tests
+
+module _ (cache : Cache) (request : List ℕ) {place tag timeout : ℕ} where
+  pub load-is : place ≡ lowestPlace cache Empty → tag ≡ tagAt (requestFields Klod) request → timeout ≡ numberAt (requestFields Klod) Cmd-timeout request → Load place tag timeout ≡ loadOf cache request
+  load-is p t o = rw (p, t, o)
+
+  pub unload-is : place ≡ lowestPlace cache (Tag tag) → tag ≡ tagAt (requestFields Kunl) request → timeout ≡ numberAt (requestFields Kunl) Cmd-timeout request → Unload place tag timeout ≡ unloadOf cache request
+  unload-is p t o = rw (p, t, o)
+
+module _ (image cells : List ℕ) (cache : Cache) (request : List ℕ) where
+  pub load-11 : available (activeSlot image cells) ≡ false → Refuse 11 ≡ loadAction image cells cache request
+  load-11 a = simp a
+
+  module _ (a : available (activeSlot image cells) ≡ true) where
+    pub load-12 : hasPlace cache (Tag (tagAt (requestFields Klod) request)) ≡ true → Refuse 12 ≡ loadAction image cells cache request
+    load-12 h = simp (a, h)
+
+    module _ (h : hasPlace cache (Tag (tagAt (requestFields Klod) request)) ≡ false) where
+      pub load-13 : places ≤ lowestPlace cache Empty → Refuse 13 ≡ loadAction image cells cache request
+      load-13 p = simp (a, h, le-ltb _ _ p)
+
+      pub load-at : lowestPlace cache Empty < places → loadOf cache request ≡ loadAction image cells cache request
+      load-at p = simp (a, h, lt-ltb _ _ p)
+
+module _ (cache : Cache) (request : List ℕ) where
+  pub unload-14 : places ≤ lowestPlace cache (Tag (tagAt (requestFields Kunl) request)) → Refuse 14 ≡ unloadAction cache request
+  unload-14 p = simp (le-ltb _ _ p)
+
+  pub unload-at : lowestPlace cache (Tag (tagAt (requestFields Kunl) request)) < places → unloadOf cache request ≡ unloadAction cache request
+  unload-at p = simp (lt-ltb _ _ p)
+
+-- ---- what a call does, by where its judging ends
+
+module _ (image cells marks : List ℕ) (cache : Cache) (code : ℕ) (request : List ℕ) (room block : ℕ) where
+  -- the tests after the drive's
+  buffer-tests : List (Bool × ℕ)
+  buffer-tests = (buffersBad room block, 2) ∷ (requestTests (commandOf code) code request ++ ownTests (commandOf code) image cells cache request)
+
+  pub action-drive : (n : ℕ) → Refused n ≡ checkOf image cells marks → Refuse n ≡ actionOf image cells marks cache code request room block
+  unfolding actionOf buffer-tests
+  action-drive n e = sym (check-refused Refuse buffer-tests (accepted (commandOf code) image cells cache request) image cells marks n e)
+
+  module _ (header : Header) (e : Ready header ≡ checkOf image cells marks) where
+    past-drive : actionOf image cells marks cache code request room block ≡ lowest Refuse buffer-tests (accepted (commandOf code) image cells cache request)
+    unfolding actionOf buffer-tests
+    past-drive = check-passed Refuse buffer-tests (accepted (commandOf code) image cells cache request) image cells marks header e
+
+    pub action-buffers : buffersBad room block ≡ true → Refuse 2 ≡ actionOf image cells marks cache code request room block
+    unfolding buffer-tests
+    action-buffers b = sym (past-drive ∙ simp b)
+
+    module _ (b : buffersBad room block ≡ false) where
+      past-buffers : actionOf image cells marks cache code request room block ≡ lowest Refuse (requestTests (commandOf code) code request ++ ownTests (commandOf code) image cells cache request) (accepted (commandOf code) image cells cache request)
+      unfolding buffer-tests
+      past-buffers = past-drive ∙ simp b
+
+      module _ (command : Command) (named : command ≡ commandOf code) where
+        pub action-request : (n : ℕ) → n ≡ numberOf (requestTests command code request) → (n ≡ 0 → ⊥) → Refuse n ≡ actionOf image cells marks cache code request room block
+        action-request n q o =
+            sym (past-buffers ∙ rw (← named) (number-refuses Refuse (ownTests command image cells cache request) (accepted command image cells cache request) (requestTests command code request) n q o))
+
+        pub action-own : (r : Action) → 0 ≡ numberOf (requestTests command code request) → r ≡ ownAction command image cells cache request → r ≡ actionOf image cells marks cache code request room block
+        unfolding requestTests
+        action-own r z q =
+            q ∙ sym (past-buffers ∙ rw (← named) (number-passes Refuse (ownTests command image cells cache request) (accepted command image cells cache request) (requestTests command code request) 0 refl z .is))
+
+-- ---- what an accepted call tells
+
+refuses : (n : ℕ) → refusing (Refuse n) ≡ true
+refuses n = refl
+
+command-kept : (command : Command) (image cells : List ℕ) (cache : Cache) (request : List ℕ) → commandIn (accepted command image cells cache request) ≡ command
+command-kept Clkc image cells cache request = refl
+command-kept Klod image cells cache request = refl
+command-kept Kunl image cells cache request = refl
+command-kept Fsta image cells cache request = refl
+command-kept Unknown image cells cache request = refl
+
+-- the buffers are long enough, and the request has its command's length
+pub record Carried (action : Action) (request response block : List ℕ) : Type 0 where
+  pub fits : Fits action request block
+  pub room : 20 ≤ length response
+
+pub carried : (image cells marks : List ℕ) (cache : Cache) (code : ℕ) (request response block : List ℕ) (action : Action) → action ≡ actionOf image cells marks cache code request (length response) (length block) → refusing action ≡ false → Carried action request response block
+unfolding actionOf requestTests
+carried image cells marks cache code request response block action e r =
+    let command = commandOf code in
+    let told = accepted-tells Refuse refusing refuses (mailboxTests image cells marks cache code request (length response) (length block)) (accepted command image cells cache request) (rw e at r) in
+    let buffers = neither (not (eqb (length block) 128)) (ltb (length response) 20) (told .none 2) in
+    let named : commandIn action ≡ command = ap commandIn (e ∙ told .is) ∙ command-kept command image cells cache request in
+    record {
+      fits = record { block-long = eqb-true _ _ (not-false _ (buffers .0)); request-long = rw named (eqb-true _ _ (not-false _ (told .none 4))) };
+      room = ltb-false _ _ (buffers .1);
+    }
+
+-- ---- the response, by the fields that were written
+
+pub status-bytes : (slot : ActiveSlot) {number hek : ℕ} → number ≡ slotNumber slot → hek ≡ hekNumber slot → bytes4 number ++ bytes4 hek ≡ ownBytes (Status slot)
+status-bytes slot p q = rw (p, q)
+
+pub responded : (action : Action) {before middle after : List ℕ} {n : ℕ} → refusing action ≡ false → Put 4 (bytes4 0 ++ bytes4 0 ++ ownBytes action) before middle n → after ≡ closed n middle → after ≡ responseAfter action before
+responded (Refuse n) r p q = absurd (false≢true (sym r))
+responded (Clear timeout) r p q = closed-is p q ∙ rw (p .is-next)
+responded (Load place tag timeout) r p q = closed-is p q ∙ rw (p .is-next)
+responded (Unload place tag timeout) r p q = closed-is p q ∙ rw (p .is-next)
+responded (Status slot) r p q = closed-is p q ∙ rw (p .is-next)
+
+-- a host that reads the response by its list finds what is meant
+pub place-reads : (place tag timeout : ℕ) (response : List ℕ) → numberAt (responseFields Klod) Place (responseAfter (Load place tag timeout) response) ≡ place
+place-reads place tag timeout response = response-reads (valueIn (Load place tag timeout)) Klod Place (drop 16 response) refl refl refl
+
+pub slot-reads : (slot : ActiveSlot) (response : List ℕ) → (numberAt (responseFields Fsta) Active-slot (responseAfter (Status slot) response) ≡ slotNumber slot) × (numberAt (responseFields Fsta) Hek-available (responseAfter (Status slot) response) ≡ hekNumber slot)
+slot-reads slot response =
+    (response-reads (valueIn (Status slot)) Fsta Active-slot (drop 20 response) refl refl refl, response-reads (valueIn (Status slot)) Fsta Hek-available (drop 20 response) refl refl refl)
+
+-- ---- what a call leaves
+
+still : (action : Action) {reply : Reply} (cells request response block : List ℕ) (cache : Cache) → reply ≡ replyOf action → refusing action ≡ true → left reply cells cache response block ≡ outcomeOf action cells cache request response block
+still (Refuse n) cells request response block cache e r = rw e
+still (Clear timeout) cells request response block cache e r = absurd (false≢true r)
+still (Load place tag timeout) cells request response block cache e r = absurd (false≢true r)
+still (Unload place tag timeout) cells request response block cache e r = absurd (false≢true r)
+still (Status slot) cells request response block cache e r = absurd (false≢true r)
+
+module _ (image cells marks : List ℕ) (cache : Cache) (code : ℕ) (request response block : List ℕ) (action : Action) (e : action ≡ actionOf image cells marks cache code request (length response) (length block)) {reply : Reply} (said : reply ≡ replyOf action) where
+  -- a refusal leaves everything as it was
+  pub refused-left : refusing action ≡ true → left reply cells cache response block ≡ mailboxOf image cells marks cache code request response block
+  refused-left r = still action cells request response block cache said r ∙ ap (λ (a : Action). outcomeOf a cells cache request response block) e
+
+  pub carried-left : {cache′ : Cache} {response′ block′ : List ℕ} → cache′ ≡ cacheAfter action cache → block′ ≡ blockAfter action request block → response′ ≡ responseAfter action response → left reply cells cache′ response′ block′ ≡ mailboxOf image cells marks cache code request response block
+  carried-left p q s = rw (said, p, q, s) (ap (λ (a : Action). outcomeOf a cells cache request response block) e)
+
+-- ---- "the lowest that applies is given, and none is given otherwise"
+
+ascends : (image cells marks : List ℕ) (cache : Cache) (command : Command) (code : ℕ) (request : List ℕ) (bad : Bool) → ascendFrom 1 (driveTests image cells marks ++ ((bad, 2) ∷ (requestTests command code request ++ ownTests command image cells cache request))) ≡ true
+unfolding requestTests
+ascends image cells marks cache Clkc code request bad = refl
+ascends image cells marks cache Klod code request bad = refl
+ascends image cells marks cache Kunl code request bad = refl
+ascends image cells marks cache Fsta code request bad = refl
+ascends image cells marks cache Unknown code request bad = refl
+
+pub mailbox-lowest : (image cells marks : List ℕ) (cache : Cache) (code : ℕ) (request : List ℕ) (room block : ℕ) → Given Refuse (mailboxTests image cells marks cache code request room block) (accepted (commandOf code) image cells cache request) (actionOf image cells marks cache code request room block)
+unfolding actionOf
+mailbox-lowest image cells marks cache code request room block =
+    lowest-tells Refuse (accepted (commandOf code) image cells cache request) 1 (mailboxTests image cells marks cache code request room block) (ascends image cells marks cache (commandOf code) code request (buffersBad room block))

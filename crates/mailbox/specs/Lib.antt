@@ -1,0 +1,3 @@
+pub mod Mailbox
+pub mod Laws
+pub mod Vectors

@@ -1,0 +1,91 @@
+-- Document 01, "The small drive", cases 1 and 9, a load and an unload, and each refusal where every later one applies too, by
+-- computation. Assumes nothing.
+use Prim.Native.Nat.{ℕ}
+use mathlib.Core.Path.{_≡_, refl}
+use mathlib.Core.List.{List, [], _∷_, _++_}
+use lib.ListN.{replicate}
+use lib.Count.{onesIn}
+use Rattle.laws.specs.Tests.{every}
+use Rattle.laws.specs.Below.{allBelow, countBelow, firstFrom}
+use Rattle.endian.specs.Endian.{u16At, u32At, bytes4}
+use Rattle.map.specs.Map.{headerGood, fillerGood, entryGood, placeGood, mapGood}
+use Rattle.map.specs.Vectors.{image, two}
+use Rattle.partition.specs.Partition.{shortAt, counted, zeroCell, stateOf}
+use Rattle.drive.specs.Drive.{wholeArrays, surveyAt, slotAt, openSlot, activeSlot}
+use Rattle.cache.specs.Cache.{Cache, cacheOf, isAt, placed, empty}
+use Rattle.engine.specs.Engine.{zeros}
+use Rattle.engine.specs.declared.Order.the-variants.{Nothing, Clear, Load, Unload}
+use Rattle.codec.specs.Request.{requestTests}
+use Rattle.mailbox.specs.declared.Action.{Action}
+use Rattle.mailbox.specs.declared.Action.the-variants.{Refuse}
+use Rattle.mailbox.specs.declared.Reply.the-variants.{Accepted}
+use Rattle.mailbox.specs.Mailbox.{actionOf, Outcome, left, mailboxOf}
+
+abbrev small : List ℕ
+small = image 2 12 60 8 [] two
+
+abbrev cells : List ℕ
+cells = 1 ∷ replicate 11 0
+
+-- a call on the small drive, with a block of sevens and a response buffer of 24 nines
+abbrev call : Cache → (code : ℕ) (request : List ℕ) → Outcome
+call cache code request = mailboxOf small cells (replicate 12 0) cache code request (replicate 24 9) (replicate 128 7)
+
+-- case 1: active 0, available 1; the block and the bytes past the response stay
+case-1 : call empty 0x4653_5441 (bytes4 0xFFFF_FED2 ++ bytes4 0) ≡ left (Accepted 20 Nothing) cells empty (bytes4 0xFFFF_FFFF ++ bytes4 0 ++ bytes4 0 ++ bytes4 0 ++ bytes4 1 ++ replicate 4 9) (replicate 128 7)
+unfolding actionOf requestTests mapGood wholeArrays every headerGood fillerGood entryGood placeGood allBelow u16At u32At activeSlot openSlot slotAt surveyAt stateOf counted shortAt zeroCell countBelow firstFrom onesIn
+case-1 = refl
+
+-- case 9: the block is all zero, the response 12 zero bytes
+case-9 : call empty 0x434C_4B43 (bytes4 0xFFFF_FDF8 ++ bytes4 0 ++ bytes4 1000) ≡ left (Accepted 12 (Clear 1000)) cells empty (zeros 12 ++ replicate 12 9) (zeros 128)
+unfolding actionOf requestTests mapGood wholeArrays every headerGood fillerGood entryGood placeGood allBelow u16At u32At
+case-9 = refl
+
+-- a load with timeout 5 of the tag 0x100000002 with an MEK of threes, and its unload
+abbrev one-key : Cache
+one-key = cacheOf (1 ∷ zeros 15) (0x1_0000_0002 ∷ zeros 15)
+
+load : call empty 0x4B4C_4F44 (bytes4 0xFFFF_FE0E ++ bytes4 0 ++ bytes4 5 ++ bytes4 2 ++ bytes4 1 ++ replicate 64 3) ≡ left (Accepted 16 (Load 0 5)) cells one-key (zeros 16 ++ replicate 8 9) (replicate 64 3 ++ (2 ∷ 0 ∷ 0 ∷ 0 ∷ 1 ∷ 0 ∷ 0 ∷ 0 ∷ zeros 56))
+unfolding actionOf requestTests mapGood wholeArrays every headerGood fillerGood entryGood placeGood allBelow u16At u32At activeSlot openSlot slotAt surveyAt stateOf counted shortAt zeroCell countBelow firstFrom onesIn isAt placed
+load = refl
+
+unload : call one-key 0x4B55_4E4C (bytes4 0xFFFF_FEBE ++ bytes4 0 ++ bytes4 5 ++ bytes4 2 ++ bytes4 1) ≡ left (Accepted 12 (Unload 0 5)) cells empty (zeros 12 ++ replicate 12 9) (zeros 64 ++ (2 ∷ 0 ∷ 0 ∷ 0 ∷ 1 ∷ 0 ∷ 0 ∷ 0 ∷ zeros 56))
+unfolding actionOf requestTests mapGood wholeArrays every headerGood fillerGood entryGood placeGood allBelow u16At u32At firstFrom isAt placed
+unload = refl
+
+-- ---- refusals: each call breaks its own rule and, where it can, every later one
+
+-- a KLOD of tag 2 with reserved 1 and a wrong chksum, and then what is right of it, one after the other
+abbrev klod : (chksum reserved : ℕ) → List ℕ
+klod chksum reserved = bytes4 chksum ++ bytes4 reserved ++ bytes4 0 ++ bytes4 2 ++ bytes4 0 ++ replicate 64 0
+
+-- a full cache that holds tag 2; one that is full of others; the small drive with its slot erased
+abbrev full : (tag : ℕ) → Cache
+full tag = cacheOf (replicate 16 1) (replicate 16 tag)
+
+abbrev erased : List ℕ
+erased = replicate 6 0xFFFF_FFFF ++ replicate 6 0
+
+abbrev does : (image cells : List ℕ) → Cache → (code : ℕ) (request : List ℕ) (room block : ℕ) → Action
+does image cells cache code request room block = actionOf image cells (replicate 12 0) cache code request room block
+
+refusals :
+    -- 1 and all the rest
+    does [] cells (full 2) 0 [] 0 0
+    -- 2 for the cells, the block and the buffer
+    ∷ does small [] (full 2) 0 [] 20 128 ∷ does small cells (full 2) 0 [] 20 127 ∷ does small cells (full 2) 0 [] 19 128
+    -- 3 to 6
+    ∷ does small erased (full 2) 0 (0 ∷ []) 20 128
+    ∷ does small erased (full 2) 0x4B4C_4F44 (klod 0 1 ++ (0 ∷ [])) 20 128
+    ∷ does small erased (full 2) 0x4B4C_4F44 (klod 0 1) 20 128
+    ∷ does small erased (full 2) 0x4B4C_4F44 (klod 0xFFFF_FED3 1) 20 128
+    -- 11 to 13
+    ∷ does small erased (full 2) 0x4B4C_4F44 (klod 0xFFFF_FED4 0) 20 128
+    ∷ does small cells (full 2) 0x4B4C_4F44 (klod 0xFFFF_FED4 0) 20 128
+    ∷ does small cells (full 3) 0x4B4C_4F44 (klod 0xFFFF_FED4 0) 20 128
+    -- 14
+    ∷ does small cells (full 3) 0x4B55_4E4C (bytes4 0xFFFF_FEC4 ++ bytes4 0 ++ bytes4 0 ++ bytes4 2 ++ bytes4 0) 20 128
+    ∷ []
+    ≡ Refuse 1 ∷ Refuse 2 ∷ Refuse 2 ∷ Refuse 2 ∷ Refuse 3 ∷ Refuse 4 ∷ Refuse 5 ∷ Refuse 6 ∷ Refuse 11 ∷ Refuse 12 ∷ Refuse 13 ∷ Refuse 14 ∷ []
+unfolding actionOf requestTests mapGood wholeArrays every headerGood fillerGood entryGood placeGood allBelow u16At u32At activeSlot openSlot slotAt surveyAt stateOf counted shortAt zeroCell countBelow firstFrom onesIn isAt
+refusals = refl
