@@ -1,0 +1,2 @@
+pub mod Secrets
+pub mod History
