@@ -1,29 +1,13 @@
 //! The status program against the model, over many inputs.
 
-use crate::runner;
 use crate::tally::Tally;
-use std::thread;
+use crate::{cores, runner};
 
 /// Runs the status program on the inputs numbered from 0 up to `count`, on all
 /// cores, and fails the test at an output that is not the model's.
 pub fn with_model(count: usize, input: impl Fn(usize) -> Vec<u8> + Sync) -> Tally {
-    let workers = thread::available_parallelism().map_or(2, |cores| cores.get());
-    let work = |worker: usize| {
-        let mut tally = Tally::default();
-        for number in (worker..count).step_by(workers) {
-            tally.add(&one(number, &input(number)));
-        }
-        tally
-    };
-    let mut total = Tally::default();
-    thread::scope(|scope| {
-        let started: Vec<_> =
-            (0..workers).map(|worker| scope.spawn(move || work(worker))).collect();
-        for worker in started {
-            total.merge(worker.join().expect("every output is the model's"));
-        }
-    });
-    total
+    let piece = |tally: &mut Tally, number| tally.add(&one(number, &input(number)));
+    cores::share(count, piece, Tally::merge)
 }
 
 /// The output for one input, which is the program's and the model's.

@@ -23,6 +23,51 @@ pub fn over(random: &mut Random, image: Vec<u8>) -> Drive {
     Drive { image, cells, marks }
 }
 
+/// The same with fuses that leave something to burn: half of the partitions
+/// hold little, and the marks let a word that is burned whole end at the bound,
+/// one below it, or anywhere.
+pub fn to_burn(random: &mut Random, image: Vec<u8>) -> Drive {
+    let mut drive = over(random, image);
+    if let Some(map) = drive.map() {
+        for entry in map.entries() {
+            if random.one_in(2) {
+                drive.cells[entry.range()].iter_mut().for_each(|cell| *cell = sparse(random));
+            }
+        }
+        drive.marks = marks_near(random, map.bound() as usize, &drive.cells);
+    }
+    drive
+}
+
+/// A cell with few fuses set, if any.
+fn sparse(random: &mut Random) -> u32 {
+    let few = random.cell() & random.cell() & random.cell();
+    let one = 1 << random.below(32);
+    random.pick(&[0, 0, one, few])
+}
+
+/// Marks that stick some of each pair's unset fuses, and of set ones any.
+fn marks_near(random: &mut Random, bound: usize, cells: &[u32]) -> Vec<u32> {
+    let mut marks = random.cells(cells.len());
+    for (marks, cells) in marks.chunks_exact_mut(2).zip(cells.chunks_exact(2)) {
+        let any = random.below(65);
+        let spare = 64 - bound;
+        let stuck = random.pick(&[0, spare, spare, spare + 1, spare + 1, any]);
+        let unset = u64::from(!cells[0]) + (u64::from(!cells[1]) << 32);
+        let chosen = some_ones(random, stuck, unset);
+        marks[0] = (marks[0] & cells[0]) | chosen as u32;
+        marks[1] = (marks[1] & cells[1]) | (chosen >> 32) as u32;
+    }
+    marks
+}
+
+/// So many of the ones of a number, or all if it has fewer.
+fn some_ones(random: &mut Random, count: usize, of: u64) -> u64 {
+    let start = random.below(64) as u32;
+    let bits = (0..64).map(|step| 1_u64.rotate_left(start + step));
+    bits.filter(|bit| of & bit != 0).take(count).sum()
+}
+
 /// Fills a partition's cells in one of the ways that reach all four states.
 fn fill(random: &mut Random, bound: usize, data: usize, cells: &mut [u32]) {
     let way = random.below(8);

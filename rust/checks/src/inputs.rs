@@ -8,7 +8,7 @@ use model::drive::Drive;
 /// seeds what is drawn, so each input can be made again by its number alone.
 pub fn numbered(number: usize) -> Vec<u8> {
     const SEED: u64 = 0x5EED_0059_0060_0064;
-    let mut random = Random::new(SEED ^ (number as u64).wrapping_mul(0xD134_2543_DE82_EF95));
+    let mut random = Random::numbered(SEED, number);
     match number % 20 {
         0..=7 => good_drive(&mut random).status_input(),
         8 => largest_drive(&mut random).status_input(),

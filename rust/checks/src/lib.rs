@@ -1,10 +1,16 @@
-//! What the tests share: generated drives, and runs of the built programs.
+//! What the tests share: generated drives, runs of the built programs, and
+//! generated calls of the key block.
 #![forbid(unsafe_code)]
 
+pub mod calls;
 pub mod compare;
+pub mod cores;
+pub mod counts;
 pub mod drives;
 pub mod inputs;
 pub mod maps;
 pub mod random;
 pub mod runner;
+pub mod small;
 pub mod tally;
+pub mod tools;

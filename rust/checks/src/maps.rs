@@ -28,7 +28,19 @@ const EDGES: [u16; 16] = [0, 1, 2, 3, 4, 5, 6, 7, 32, 33, 64, 65, 2048, 2049, 0x
 /// A map that keeps every rule.
 pub fn good(random: &mut Random) -> Image {
     let count = random.between(1, 16);
-    let share = MOST_CELLS / count / 2 * 2;
+    good_within(random, count, MOST_CELLS)
+}
+
+/// A map of a few partitions in 64 cells at most.
+pub fn small(random: &mut Random) -> Image {
+    let count = random.between(2, 6);
+    good_within(random, count, 64)
+}
+
+/// A map of so many partitions that keeps every rule; each has room for ten
+/// cells or more in its share of the most cells.
+fn good_within(random: &mut Random, count: usize, most_cells: usize) -> Image {
+    let share = most_cells / count / 2 * 2;
     let mut entries = Vec::new();
     let mut free = 0;
     for _ in 0..count {
@@ -36,10 +48,10 @@ pub fn good(random: &mut Random) -> Image {
         free = made.range().end;
         entries.push(made);
     }
-    // No entry took more than its share, so the end is at most 2,048.
+    // No entry took more than its share, so the end is at most the most cells.
     let behind = if random.one_in(2) { 0 } else { random.below(6) };
     Image {
-        cells: (free + behind).min(MOST_CELLS) as u16,
+        cells: (free + behind).min(most_cells) as u16,
         bound: good_bound(random),
         entries_at: good_offset(random),
         entries,
@@ -58,7 +70,12 @@ pub fn largest(random: &mut Random) -> Image {
 /// The bytes of a good map with something damaged. The damage may turn out to
 /// break no rule: the model says.
 pub fn damaged(random: &mut Random) -> Vec<u8> {
-    let mut image = good(random);
+    let image = good(random);
+    damaged_from(random, image)
+}
+
+/// The bytes of this map with something damaged.
+pub fn damaged_from(random: &mut Random, mut image: Image) -> Vec<u8> {
     if random.one_in(2) {
         damage_field(random, &mut image);
         return image.bytes();
@@ -74,7 +91,7 @@ fn good_entry(random: &mut Random, free: usize, share: usize) -> Entry {
     let least = if flags & ZEROIZABLE != 0 { 6 } else { 4 };
     let n = match random.below(8) {
         0..=2 => least,
-        3..=6 => least + 2 * random.below(8),
+        3..=6 => (least + 2 * random.below(8)).min(share),
         _ => least + 2 * random.below((share - least) / 2 + 1),
     };
     let room = (share - n) / 2;
@@ -112,7 +129,8 @@ fn damage_field(random: &mut Random, image: &mut Image) {
     }
 }
 
-fn damage_bytes(random: &mut Random, bytes: &mut Vec<u8>) {
+/// Damages one byte of an image, or its end.
+pub fn damage_bytes(random: &mut Random, bytes: &mut Vec<u8>) {
     let at = random.below(bytes.len());
     match random.below(6) {
         0..=2 => bytes[at] ^= 1 << random.below(8),

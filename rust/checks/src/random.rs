@@ -11,6 +11,12 @@ impl Random {
         Random { state: seed }
     }
 
+    /// Numbers for one of many generated things: seed and number give the same
+    /// ones again.
+    pub fn numbered(seed: u64, number: usize) -> Random {
+        Random::new(seed ^ (number as u64).wrapping_mul(0xD134_2543_DE82_EF95))
+    }
+
     /// The next 64 bits.
     pub fn bits(&mut self) -> u64 {
         self.state = self.state.wrapping_add(0x9E37_79B9_7F4A_7C15);

@@ -27,9 +27,9 @@ pub fn status_in_pieces<'a>(pieces: impl Iterator<Item = &'a [u8]>) -> Vec<u8> {
     run(&program("status"), &pieces.collect::<Vec<_>>())
 }
 
-/// The path of a built program, seen from the repository's root.
+/// The path of a built program.
 fn program(name: &str) -> PathBuf {
-    let path = Path::new(env!("CARGO_MANIFEST_DIR")).join("../../target/bin").join(name);
+    let path = in_repository("target/bin").join(name);
     assert!(
         path.is_file(),
         "the program target/bin/{name} is missing: build it before running these tests (looked for {})",
@@ -38,9 +38,15 @@ fn program(name: &str) -> PathBuf {
     path
 }
 
-/// Input and output go through threads of their own, so that neither a full
-/// pipe nor a program that stops reading early can block the run.
-fn run(path: &Path, input: &[&[u8]]) -> Vec<u8> {
+/// A path that is given from the repository's root.
+pub fn in_repository(path: &str) -> PathBuf {
+    Path::new(env!("CARGO_MANIFEST_DIR")).join("../..").join(path)
+}
+
+/// Runs any program on the pieces of its standard input, as above. Input and
+/// output go through threads of their own, so that neither a full pipe nor a
+/// program that stops reading early can block the run.
+pub fn run(path: &Path, input: &[&[u8]]) -> Vec<u8> {
     let mut child = start(path);
     let stdin = child.stdin.take().expect("standard input is a pipe");
     let (sender, receiver) = mpsc::channel();

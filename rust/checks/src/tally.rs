@@ -1,7 +1,7 @@
 //! Counts of what the outputs of the status program said, so that a generator
 //! which no longer reaches something is noticed.
 
-use std::collections::BTreeMap;
+use crate::counts::Counts;
 use std::fmt;
 
 /// Everything that a test over generated inputs has to have met.
@@ -21,7 +21,7 @@ pub const KINDS: [&str; 9] = [
 #[derive(Default)]
 pub struct Tally {
     inputs: usize,
-    counts: BTreeMap<&'static str, usize>,
+    counts: Counts<&'static str>,
 }
 
 impl Tally {
@@ -29,24 +29,22 @@ impl Tally {
     pub fn add(&mut self, output: &[u8]) {
         self.inputs += 1;
         for line in String::from_utf8_lossy(output).lines() {
-            *self.counts.entry(kind(line)).or_default() += 1;
+            self.counts.add(kind(line));
         }
     }
 
     /// Adds what another tally counted.
     pub fn merge(&mut self, other: Tally) {
         self.inputs += other.inputs;
-        for (kind, count) in other.counts {
-            *self.counts.entry(kind).or_default() += count;
-        }
+        self.counts.merge(other.counts);
     }
 
     pub fn inputs(&self) -> usize {
         self.inputs
     }
 
-    pub fn count(&self, kind: &str) -> usize {
-        self.counts.get(kind).copied().unwrap_or(0)
+    pub fn count(&self, kind: &'static str) -> usize {
+        self.counts.of(&kind)
     }
 }
 

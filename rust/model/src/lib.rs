@@ -1,13 +1,17 @@
 //! A plain reading of document 01, written from the document alone.
 //!
-//! A reviewer holds each file against the section it names. Nothing here is
+//! Each file names the section of document 01 that it reads. Nothing here is
 //! tuned for speed, and nothing is shared with the programs it is compared to.
 #![forbid(unsafe_code)]
 #![deny(missing_docs)]
 
+pub mod cache;
+pub mod direct;
 pub mod drive;
 pub mod fuse;
 pub mod image;
+pub mod lent;
+pub mod mailbox;
 pub mod map;
 pub mod partition;
 pub mod refusal;

@@ -1,0 +1,20 @@
+-- `sciambrunola::sci_zeroize` meets its contract: what the entry point leaves. Assumes nothing.
+use borrow.Author.Needs.{needs}
+use Rattle.sciambrunola.specs.Laws.{told}
+use Rattle.sciambrunola.proofs.sci_zeroize.Statement.{statement}
+use Rattle.sciambrunola.proofs.sci_zeroize.Tie as tie
+
+run-requires : tie.Need-run-requires
+run-requires c κs = search needs
+
+flat-answer-requires : tie.Need-flat-answer-requires
+flat-answer-requires c κs = search needs
+
+same-length : tie.Need-same-length
+same-length c = search needs
+
+returns : tie.Need-returns
+returns c = told (c .before .before .before .run .ensures) (c .flat-answer .ensures)
+
+pub sci-zeroize-spec : {M : Type 1} → statement M
+sci-zeroize-spec = tie.close (tie.spec run-requires flat-answer-requires same-length returns)

@@ -1,0 +1,47 @@
+-- The answers as numbers, for C: each case of an answer, a reply and an engine order. Assumes nothing.
+use Prim.Native.Nat.{ℕ}
+use mathlib.Core.Path.{_≡_}
+use mathlib.Core.List.{List}
+use Rattle.cache.specs.Cache.{Cache}
+use Rattle.engine.specs.declared.Order.{Order}
+use Rattle.engine.specs.declared.Order.the-variants.{Nothing, Clear, Load, Unload}
+use Rattle.direct.specs.declared.Answer.{Answer}
+use Rattle.direct.specs.declared.Answer.the-variants.{Word, Done, Withheld, Refused as RefusedAnswer}
+use Rattle.direct.specs.Direct.{Outcome as Direct}
+use Rattle.mailbox.specs.declared.Reply.{Reply}
+use Rattle.mailbox.specs.declared.Reply.the-variants.{Refused, Accepted}
+use Rattle.mailbox.specs.Mailbox.{Outcome}
+use Rattle.sciambrunola.specs.declared.SciAnswer.{SciAnswer}
+use Rattle.sciambrunola.specs.declared.SciReply.{SciReply}
+
+-- "the answer is a word, done, withheld, or refused with its number"
+abbrev pub answerNumbers : Answer → SciAnswer
+answerNumbers (Word word) = record { kind = 0; refusal = 0; word = word }
+answerNumbers Done = record { kind = 1; refusal = 0; word = 0 }
+answerNumbers Withheld = record { kind = 2; refusal = 0; word = 0 }
+answerNumbers (RefusedAnswer number) = record { kind = 3; refusal = number; word = 0 }
+
+-- "none, or clear with the timeout, or load or unload with place and timeout"
+abbrev pub orderNumbers : (length : ℕ) → Order → SciReply
+orderNumbers length Nothing = record { refusal = 0; length = length; order = 0; place = 0; timeout = 0 }
+orderNumbers length (Clear timeout) = record { refusal = 0; length = length; order = 1; place = 0; timeout = timeout }
+orderNumbers length (Load place timeout) = record { refusal = 0; length = length; order = 2; place = place; timeout = timeout }
+orderNumbers length (Unload place timeout) = record { refusal = 0; length = length; order = 3; place = place; timeout = timeout }
+
+-- "Besides the response length the answer holds the engine order"; on refusal "the engine order is none"
+abbrev pub replyNumbers : Reply → SciReply
+replyNumbers (Refused number) = record { refusal = number; length = 0; order = 0; place = 0; timeout = 0 }
+replyNumbers (Accepted length order) = orderNumbers length order
+
+-- a direct command told its answer, and left the cells, as the definition has them
+pub record Told (r : SciAnswer) (cells : List ℕ) (direct : Direct) : Type 0 where
+  pub answer : r ≡ answerNumbers (direct .answer)
+  pub cells-left : cells ≡ direct .cells
+
+-- a call told its reply, and left everything that it was lent, as the definition has it
+pub record Called (r : SciReply) (cells : List ℕ) (cache : Cache) (response block : List ℕ) (call : Outcome) : Type 0 where
+  pub reply : r ≡ replyNumbers (call .reply)
+  pub cells-left : cells ≡ call .cells
+  pub cache-left : cache ≡ call .cache
+  pub response-left : response ≡ call .response
+  pub block-left : block ≡ call .block

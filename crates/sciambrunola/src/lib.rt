@@ -1,0 +1,210 @@
+// What C and Rust call, in a static archive: the direct commands and the mailbox, their answers as
+// numbers, since an enum does not cross. Each function does what the entry point below it does, for
+// any bytes and any lengths, and asks nothing of its caller but what include/sciambrunola.h says of
+// pointers. The numbers of each case are in `specs/Numbers`. It rests on `direct` and `mailbox`.
+use direct::Answer;
+use direct::Command;
+use engine::Order;
+use mailbox::Reply;
+ghost use mathlib.Core.Path.{_≡_};
+ghost use Rattle.cache.specs.Cache.{cacheOf};
+ghost use Rattle.direct.specs.Direct.{directOf};
+ghost use Rattle.mailbox.specs.Mailbox.{mailboxOf};
+ghost use Rattle.sciambrunola.specs.Numbers.{answerNumbers, orderNumbers, replyNumbers, Told, Called};
+
+// A direct command's answer. kind: 0 a word, 1 done, 2 withheld, 3 refused.
+#[repr(C)]
+pub struct SciAnswer {
+    pub kind: u32,
+    pub refusal: u32,
+    pub word: u64,
+}
+
+// The mailbox's answer. order: 0 none, 1 clear, 2 load, 3 unload.
+#[repr(C)]
+pub struct SciReply {
+    pub refusal: u32,
+    pub length: u32,
+    pub order: u32,
+    pub place: u32,
+    pub timeout: u32,
+}
+
+// An answer as numbers.
+fn flat_answer(answer: Answer) -> SciAnswer
+    ensures { λ r. ⌜ r ≡ answerNumbers answer ⌝ }
+{
+    match answer {
+        Answer::Word(word) => SciAnswer {
+            kind: 0,
+            refusal: 0,
+            word: word,
+        },
+        Answer::Done => SciAnswer {
+            kind: 1,
+            refusal: 0,
+            word: 0,
+        },
+        Answer::Withheld => SciAnswer {
+            kind: 2,
+            refusal: 0,
+            word: 0,
+        },
+        Answer::Refused(number) => SciAnswer {
+            kind: 3,
+            refusal: number,
+            word: 0,
+        },
+    }
+}
+
+// An accepted call's reply as numbers.
+fn flat_order(length: u32, order: Order) -> SciReply
+    ensures { λ r. ⌜ r ≡ orderNumbers length order ⌝ }
+{
+    match order {
+        Order::Nothing => SciReply {
+            refusal: 0,
+            length: length,
+            order: 0,
+            place: 0,
+            timeout: 0,
+        },
+        Order::Clear { timeout } => SciReply {
+            refusal: 0,
+            length: length,
+            order: 1,
+            place: 0,
+            timeout: timeout,
+        },
+        Order::Load { place, timeout } => SciReply {
+            refusal: 0,
+            length: length,
+            order: 2,
+            place: place,
+            timeout: timeout,
+        },
+        Order::Unload { place, timeout } => SciReply {
+            refusal: 0,
+            length: length,
+            order: 3,
+            place: place,
+            timeout: timeout,
+        },
+    }
+}
+
+// A reply as numbers.
+fn flat_reply(reply: Reply) -> SciReply
+    ensures { λ r. ⌜ r ≡ replyNumbers reply ⌝ }
+{
+    match reply {
+        Reply::Refused(number) => SciReply {
+            refusal: number,
+            length: 0,
+            order: 0,
+            place: 0,
+            timeout: 0,
+        },
+        Reply::Accepted { length, order } => flat_order(length, order),
+    }
+}
+
+// READ of the word that starts at `cell`.
+#[no_mangle]
+pub extern "C" fn sci_read(
+    image: &[u8],
+    cells: &mut [u32],
+    marks: &[u32],
+    kinds: &[u8; 16],
+    tags: &[u64; 16],
+    cell: u32,
+) -> SciAnswer
+    ensures { λ r. ⌜ Told r (now (cells .exit)) (directOf (now (image .entry)) (now (cells .entry)) (now (marks .entry)) (cacheOf (now (kinds .entry)) (now (tags .entry))) (Command.Read cell)) ⌝ }
+{
+    flat_answer(direct::run(
+        image,
+        cells,
+        marks,
+        kinds,
+        tags,
+        Command::Read { cell: cell },
+    ))
+}
+
+// WRITE of a value into the word that starts at `cell`.
+#[no_mangle]
+pub extern "C" fn sci_write(
+    image: &[u8],
+    cells: &mut [u32],
+    marks: &[u32],
+    kinds: &[u8; 16],
+    tags: &[u64; 16],
+    cell: u32,
+    value: u64,
+) -> SciAnswer
+    ensures { λ r. ⌜ Told r (now (cells .exit)) (directOf (now (image .entry)) (now (cells .entry)) (now (marks .entry)) (cacheOf (now (kinds .entry)) (now (tags .entry))) (Command.Write cell value)) ⌝ }
+{
+    flat_answer(direct::run(
+        image,
+        cells,
+        marks,
+        kinds,
+        tags,
+        Command::Write {
+            cell: cell,
+            value: value,
+        },
+    ))
+}
+
+// ZEROIZE of the word that starts at `cell`.
+#[no_mangle]
+pub extern "C" fn sci_zeroize(
+    image: &[u8],
+    cells: &mut [u32],
+    marks: &[u32],
+    kinds: &[u8; 16],
+    tags: &[u64; 16],
+    cell: u32,
+) -> SciAnswer
+    ensures { λ r. ⌜ Told r (now (cells .exit)) (directOf (now (image .entry)) (now (cells .entry)) (now (marks .entry)) (cacheOf (now (kinds .entry)) (now (tags .entry))) (Command.Zeroize cell)) ⌝ }
+{
+    flat_answer(direct::run(
+        image,
+        cells,
+        marks,
+        kinds,
+        tags,
+        Command::Zeroize { cell: cell },
+    ))
+}
+
+// A call of the mailbox.
+#[no_mangle]
+pub extern "C" fn sci_mailbox(
+    image: &[u8],
+    cells: &mut [u32],
+    marks: &[u32],
+    kinds: &mut [u8; 16],
+    tags: &mut [u64; 16],
+    code: u32,
+    request: &[u8],
+    response: &mut [u8],
+    block: &mut [u8],
+) -> SciReply
+    ensures { λ r. ⌜ Called r (now (cells .exit)) (cacheOf (now (kinds .exit)) (now (tags .exit))) (now (response .exit)) (now (block .exit))
+        (mailboxOf (now (image .entry)) (now (cells .entry)) (now (marks .entry)) (cacheOf (now (kinds .entry)) (now (tags .entry))) code (now (request .entry)) (now (response .entry)) (now (block .entry))) ⌝ }
+{
+    flat_reply(mailbox::call(
+        image,
+        cells,
+        marks,
+        kinds,
+        tags,
+        code,
+        request,
+        response,
+        block,
+    ))
+}

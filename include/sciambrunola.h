@@ -1,0 +1,182 @@
+/*
+ * The proved key block of a drive controller: direct commands on its fuses,
+ * the key cache of 16 places, and the mailbox. Link libsciambrunola.a: it is
+ * built for x86-64 Linux (System V calling convention), position-independent,
+ * with no heap, no C library and no undefined symbol.
+ *
+ * Any bytes, cells, marks, requests and lengths get an answer, and every call
+ * ends. What the caller must see to, and all of it:
+ *   - every pointer is valid for its count (and not null, even for a count of
+ *     0); a count is in elements of the pointer's type;
+ *   - kinds and tags are arrays of SCI_PLACES elements;
+ *   - a buffer that a call may write, that is one whose pointer is not const
+ *     (cells; for the mailbox also kinds, tags, response and block), overlaps
+ *     no other buffer of the call. Buffers that are const may overlap.
+ *
+ * What is lent to every function:
+ *   image, image_bytes  the map of the fuses, little-endian; only read
+ *   cells, cell_count   the fuse cells, 32 fuses each; written by sci_write and
+ *                       sci_zeroize, and only read by sci_read and sci_mailbox,
+ *                       though the pointer is not const there either
+ *   marks, mark_count   the stuck marks, one number for each cell; only read
+ *   kinds, tags         the key cache: kinds[i] is 0 where place i is empty,
+ *                       and tags[i] is then not looked at; otherwise the place
+ *                       holds tags[i]. Any kind other than 0 is read as held.
+ *                       Written by sci_mailbox alone: a place that it fills
+ *                       gets kind 1, one that it empties kind 0 and tag 0. All
+ *                       zeros are an empty cache.
+ *
+ * Refusal numbers. They are checked in ascending order and the lowest that
+ * applies is answered. A refused call leaves everything that is lent as it was.
+ *    1  the map breaks a rule
+ *    2  cells or marks are not as many as the map says; for the mailbox also
+ *       the block is not SCI_BLOCK_BYTES long, or the response buffer is
+ *       under SCI_LEAST_RESPONSE bytes
+ *    3  unknown code
+ *    4  the request has not its exact length
+ *    5  wrong chksum
+ *    6  reserved is not zero
+ *    7  no such partition, or the cell starts no word
+ *    8  the command may not touch it
+ *    9  WRITE would clear a fuse
+ *   10  slot change while keys are held
+ *   11  KLOD, HEK not available
+ *   12  KLOD, tag held already
+ *   13  KLOD, no empty place
+ *   14  KUNL, tag not held
+ */
+#ifndef SCIAMBRUNOLA_H
+#define SCIAMBRUNOLA_H
+
+#include <stddef.h>
+#include <stdint.h>
+
+#ifdef __cplusplus
+extern "C" {
+#endif
+
+/* Places of the key cache. */
+#define SCI_PLACES 16
+/* Bytes of the engine block: MEK at 00h, METD at 40h, AUX at 60h. */
+#define SCI_BLOCK_BYTES 128
+/* The shortest response buffer that is accepted. */
+#define SCI_LEAST_RESPONSE 20
+
+/* sci_answer.kind */
+#define SCI_WORD 0
+#define SCI_DONE 1
+#define SCI_WITHHELD 2
+#define SCI_REFUSED 3
+
+/* sci_reply.order */
+#define SCI_ORDER_NONE 0
+#define SCI_ORDER_CLEAR 1
+#define SCI_ORDER_LOAD 2
+#define SCI_ORDER_UNLOAD 3
+
+/* Codes of the mailbox commands. */
+#define SCI_CLKC UINT32_C(0x434C4B43)
+#define SCI_KLOD UINT32_C(0x4B4C4F44)
+#define SCI_KUNL UINT32_C(0x4B554E4C)
+#define SCI_FSTA UINT32_C(0x46535441)
+
+/* What a direct command answers. */
+typedef struct {
+    uint32_t kind;    /* SCI_WORD, SCI_DONE, SCI_WITHHELD or SCI_REFUSED */
+    uint32_t refusal; /* the refusal's number, 0 unless refused */
+    uint64_t word;    /* the word, 0 unless a word is answered */
+} sci_answer;
+
+/* What the mailbox answers. */
+typedef struct {
+    uint32_t refusal; /* the refusal's number, 0 where the command was carried out */
+    uint32_t length;  /* bytes of the response, 0 on refusal */
+    uint32_t order;   /* for the engine: SCI_ORDER_NONE, _CLEAR, _LOAD or _UNLOAD */
+    uint32_t place;   /* of a load or unload, else 0 */
+    uint32_t timeout; /* of a clear, load or unload, else 0 */
+} sci_reply;
+
+/*
+ * READ of the word that starts at this cell. Answers the word; one of 32 bits
+ * has zeros above them. Changes nothing.
+ * Refused: 1, 2, 7; 8 in a secret partition.
+ */
+sci_answer sci_read(const uint8_t *image, size_t image_bytes,
+                    uint32_t *cells, size_t cell_count,
+                    const uint32_t *marks, size_t mark_count,
+                    const uint8_t kinds[SCI_PLACES], const uint64_t tags[SCI_PLACES],
+                    uint32_t cell);
+
+/*
+ * WRITE of a value to the data word that starts at this cell. Burns each fuse
+ * of the value that is not marked stuck, and leaves all others. Answers the
+ * word as it then stands, or done in a secret partition.
+ * Refused: 1, 2, 7; 8 for digest, indicator, life cycle, a partition counted
+ * as zeroized, a value over 32 bits for a 32-bit word; 9 where the value lacks
+ * a set fuse; 10.
+ * With a key held, 9 or 10 tells whether the value lacks a set fuse of a word of
+ * a slot: who may WRITE to a slot can find its fuses, though no word is shown.
+ */
+sci_answer sci_write(const uint8_t *image, size_t image_bytes,
+                     uint32_t *cells, size_t cell_count,
+                     const uint32_t *marks, size_t mark_count,
+                     const uint8_t kinds[SCI_PLACES], const uint64_t tags[SCI_PLACES],
+                     uint32_t cell, uint64_t value);
+
+/*
+ * ZEROIZE of the word that starts at this cell. Burns each of its fuses that
+ * is not marked stuck, and leaves all others. Answers the word as it then
+ * stands; in a secret partition only if its ones reach the map's bound,
+ * otherwise withheld.
+ * Refused: 1, 2, 7; 8 in a partition that is not zeroizable; 10.
+ */
+sci_answer sci_zeroize(const uint8_t *image, size_t image_bytes,
+                       uint32_t *cells, size_t cell_count,
+                       const uint32_t *marks, size_t mark_count,
+                       const uint8_t kinds[SCI_PLACES], const uint64_t tags[SCI_PLACES],
+                       uint32_t cell);
+
+/*
+ * A mailbox command. Fields are little-endian u32, but for the 64 MEK bytes.
+ *
+ *   code      request                                      response
+ *   SCI_CLKC  chksum, reserved, cmd_timeout                chksum, fips_status,
+ *             12 bytes                                     reserved: 12 bytes
+ *   SCI_KLOD  chksum, reserved, cmd_timeout, tag low,      ..., place
+ *             tag high, 64 MEK bytes: 84 bytes             16 bytes
+ *   SCI_KUNL  chksum, reserved, cmd_timeout, tag low,      as CLKC
+ *             tag high: 20 bytes                           12 bytes
+ *   SCI_FSTA  chksum, reserved                             ..., active slot's
+ *             8 bytes                                      partition or
+ *                                                          0xFFFFFFFF, HEK
+ *                                                          available 1 or 0
+ *                                                          20 bytes
+ *
+ * A request's chksum is 0 minus the sum of the four bytes of the code and of
+ * every request byte after chksum, in 32 bits; a response's is the same
+ * without the code. fips_status and reserved are 0.
+ *
+ * CLKC empties the cache; the engine is to clear, and the block is all zero.
+ * KLOD puts the tag into the lowest empty place; the engine is to load, and the
+ * block has the MEK, the tag in the first 8 bytes of METD, and zeros.
+ * KUNL frees the lowest place that holds the tag; the engine is to unload, and
+ * the block is as for a load with the MEK zero.
+ * FSTA changes nothing but the response; there is no order for the engine.
+ *
+ * No command changes a cell. Response bytes past the response keep their values.
+ * Refused: 1 to 6; KLOD also 11, 12, 13; KUNL also 14.
+ */
+sci_reply sci_mailbox(const uint8_t *image, size_t image_bytes,
+                      uint32_t *cells, size_t cell_count,
+                      const uint32_t *marks, size_t mark_count,
+                      uint8_t kinds[SCI_PLACES], uint64_t tags[SCI_PLACES],
+                      uint32_t code,
+                      const uint8_t *request, size_t request_bytes,
+                      uint8_t *response, size_t response_bytes,
+                      uint8_t *block, size_t block_bytes);
+
+#ifdef __cplusplus
+}
+#endif
+
+#endif

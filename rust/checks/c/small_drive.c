@@ -1,0 +1,106 @@
+/*
+ * Document 01, "The small drive", from C: case 1, a request that is refused,
+ * direct commands, and a key that is held under a kind other than 1 behind an
+ * empty place with the same tag. Every field of every answer is printed.
+ */
+#include "sciambrunola.h"
+
+#include <inttypes.h>
+#include <stdio.h>
+
+#define CELLS 12
+
+static const uint8_t image[] = {
+    2, 0, 12, 0, 60, 0, 8, 0, /* P, C, B, E */
+    0, 0, 6, 0, 0, 7, 0, 0,   /* entry 0, the slot */
+    6, 0, 6, 0, 1, 0, 0, 0    /* entry 1, software */
+};
+static uint32_t cells[CELLS] = {1};
+static const uint32_t marks[CELLS] = {0};
+static uint8_t kinds[SCI_PLACES];
+static uint64_t tags[SCI_PLACES];
+
+static void print_answer(const char *name, sci_answer answer)
+{
+    printf("%s: kind %" PRIu32 ", refusal %" PRIu32 ", word %" PRIu64 "\n", name,
+           answer.kind, answer.refusal, answer.word);
+}
+
+static void print_reply(const char *name, sci_reply reply)
+{
+    printf("%s: refusal %" PRIu32 ", length %" PRIu32 ", order %" PRIu32 ", place %" PRIu32
+           ", timeout %" PRIu32 "\n",
+           name, reply.refusal, reply.length, reply.order, reply.place, reply.timeout);
+}
+
+static void print_bytes(const char *name, const uint8_t *bytes, size_t count)
+{
+    size_t i;
+    printf("%s:", name);
+    for (i = 0; i < count; i++) {
+        printf(" %02X", (unsigned)bytes[i]);
+    }
+    printf("\n");
+}
+
+static sci_reply ask(uint32_t code, const uint8_t *request, size_t request_bytes,
+                     uint8_t *response, size_t response_bytes)
+{
+    uint8_t block[SCI_BLOCK_BYTES] = {0};
+    return sci_mailbox(image, sizeof image, cells, CELLS, marks, CELLS, kinds, tags, code,
+                       request, request_bytes, response, response_bytes, block, sizeof block);
+}
+
+static void ask_for_status(void)
+{
+    const uint8_t request[] = {0xD2, 0xFE, 0xFF, 0xFF, 0, 0, 0, 0};
+    uint8_t response[24];
+    size_t i;
+    for (i = 0; i < sizeof response; i++) {
+        response[i] = 0xA5;
+    }
+    print_reply("FSTA", ask(SCI_FSTA, request, sizeof request, response, sizeof response));
+    print_bytes("response buffer", response, sizeof response);
+    print_reply("CLKC with FSTA's request",
+                ask(SCI_CLKC, request, sizeof request, response, sizeof response));
+}
+
+static void direct_commands(void)
+{
+    size_t i;
+    print_answer("READ 0", sci_read(image, sizeof image, cells, CELLS, marks, CELLS, kinds, tags, 0));
+    print_answer("WRITE 7",
+                 sci_write(image, sizeof image, cells, CELLS, marks, CELLS, kinds, tags, 7, 0x89));
+    print_answer("WRITE 0",
+                 sci_write(image, sizeof image, cells, CELLS, marks, CELLS, kinds, tags, 0, 5));
+    print_answer("ZEROIZE 6",
+                 sci_zeroize(image, sizeof image, cells, CELLS, marks, CELLS, kinds, tags, 6));
+    printf("cells:");
+    for (i = 0; i < CELLS; i++) {
+        printf(" %" PRIu32, cells[i]);
+    }
+    printf("\n");
+}
+
+static void unload_of_another_kind(void)
+{
+    const uint8_t request[] = {
+        0xBB, 0xFE, 0xFF, 0xFF, 0, 0, 0, 0, 6, 0, 0, 0, 5, 0, 0, 0, 0, 0, 0, 0 /* timeout 6, tag 5 */
+    };
+    uint8_t response[SCI_LEAST_RESPONSE];
+    tags[0] = 5; /* place 0 is empty, so this is not looked at */
+    kinds[2] = 9;
+    tags[2] = 5;
+    print_answer("WRITE 0 with a key held",
+                 sci_write(image, sizeof image, cells, CELLS, marks, CELLS, kinds, tags, 0, 7));
+    print_reply("KUNL", ask(SCI_KUNL, request, sizeof request, response, sizeof response));
+    printf("place 2: kind %u, tag %" PRIu64 "\n", (unsigned)kinds[2], tags[2]);
+}
+
+int main(void)
+{
+    ask_for_status();
+    direct_commands();
+    unload_of_another_kind();
+    return 0;
+}

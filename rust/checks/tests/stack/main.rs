@@ -1,0 +1,70 @@
+//! The stack that each command of the key block uses, in bytes, the safe Rust
+//! call and everything under it included: every command carried out, and
+//! mailbox commands refused. It says something in an optimised build alone.
+
+mod painted;
+
+use checks::small::Small;
+use model::mailbox::fields::Command;
+use model::mailbox::request::{Request, Values};
+use painted::depth;
+use sciambrunola::{Answer, Cache, Reply};
+use std::io::Write;
+
+/// The most that any command may use.
+const MOST: usize = 1024;
+
+/// A software word of the small drive, which READ and WRITE may touch, and a
+/// slot word, which ZEROIZE may.
+const SOFTWARE_WORD: u32 = 6;
+const SLOT_WORD: u32 = 0;
+
+/// The small drive with this tag held in one place, or with an empty cache.
+fn small(held: Option<u64>) -> Small {
+    let mut places = [None; 16];
+    places[9] = held;
+    Small::new(Cache::from_places(places))
+}
+
+/// The stack of a direct command, which is carried out.
+fn of_direct(command: sciambrunola::Command) -> usize {
+    let accepted = |small: &mut Small| !matches!(small.direct(command), Answer::Refused(_));
+    measured(None, true, accepted)
+}
+
+/// The stack of a mailbox command for tag 1 with one key held.
+fn of_mailbox(command: Command, held: u64, expected: bool) -> usize {
+    let request = Request::of(command, &Values { tag: 1, ..Values::default() });
+    let accepted = |small: &mut Small| matches!(small.mailbox(&request), Reply::Accepted { .. });
+    measured(Some(held), expected, accepted)
+}
+
+/// The stack of a call that is accepted or refused as expected.
+fn measured(held: Option<u64>, expected: bool, call: impl Fn(&mut Small) -> bool) -> usize {
+    assert_eq!(call(&mut small(held)), expected, "the call that is measured is another");
+    // What the call said is kept, so that no part of it is left out.
+    depth(|| (small(held), !expected), |(small, accepted)| *accepted = call(small))
+}
+
+#[test]
+#[cfg_attr(debug_assertions, ignore = "the stack is measured in an optimised build")]
+fn every_command_uses_less_than_1_kib() {
+    use sciambrunola::Command::{Read, Write, Zeroize};
+    let used = [
+        ("READ", of_direct(Read { cell: SOFTWARE_WORD })),
+        ("WRITE", of_direct(Write { cell: SOFTWARE_WORD, value: 5 })),
+        ("ZEROIZE", of_direct(Zeroize { cell: SLOT_WORD })),
+        ("CLKC", of_mailbox(Command::Clkc, 1, true)),
+        ("KLOD", of_mailbox(Command::Klod, 2, true)),
+        ("KLOD refused", of_mailbox(Command::Klod, 1, false)),
+        ("KUNL", of_mailbox(Command::Kunl, 1, true)),
+        ("KUNL refused", of_mailbox(Command::Kunl, 2, false)),
+        ("FSTA", of_mailbox(Command::Fsta, 1, true)),
+    ];
+    let line: Vec<String> = used.iter().map(|(name, bytes)| format!("{name} {bytes}")).collect();
+    // Written past the test harness, which would keep a print to itself.
+    writeln!(std::io::stdout(), "stack in bytes: {}", line.join(", ")).expect("it can be printed");
+    for (name, bytes) in used {
+        assert!(bytes < MOST, "{name} uses {bytes} bytes of stack");
+    }
+}

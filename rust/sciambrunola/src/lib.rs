@@ -1,0 +1,86 @@
+//! The proved key block of a drive controller: direct commands on its fuses,
+//! the key cache of 16 places, and the mailbox.
+//!
+//! Every function answers for any bytes and any lengths, and a refusal changes
+//! nothing that is lent. The refusal numbers, the fields of the requests and
+//! the lengths are those of document 01; `include/sciambrunola.h` has them in
+//! short. The work itself is done by the proved archive; here are only the
+//! types that make its calls safe.
+//!
+//! The archive is built for x86-64 Linux (System V calling convention),
+//! position-independent, with no heap, no C library and no undefined symbol, so
+//! this package runs there and needs no more than `core`.
+#![no_std]
+#![deny(missing_docs)]
+#![deny(unsafe_code)]
+
+mod answer;
+mod cache;
+#[allow(unsafe_code)]
+mod raw;
+
+pub use answer::{Answer, Order, Reply};
+pub use cache::Cache;
+
+/// A direct command (document 01, "Direct commands"). Each names a word by its
+/// first cell in the whole array.
+#[derive(Clone, Copy, Debug, PartialEq, Eq)]
+pub enum Command {
+    /// Answers the word.
+    Read {
+        /// The word's first cell.
+        cell: u32,
+    },
+    /// Burns a value into a data word.
+    Write {
+        /// The word's first cell.
+        cell: u32,
+        /// The value; it must have every fuse that is already set.
+        value: u64,
+    },
+    /// Burns all ones into a word.
+    Zeroize {
+        /// The word's first cell.
+        cell: u32,
+    },
+}
+
+/// Carries out a direct command on the fuses that `image` maps.
+///
+/// `cells` and `marks` are the fuse cells and their stuck marks. Only the
+/// fuses of the word that is named may change, and none on refusal.
+pub fn direct(
+    image: &[u8],
+    cells: &mut [u32],
+    marks: &[u32],
+    cache: &Cache,
+    command: Command,
+) -> Answer {
+    let drive = raw::Drive { image, cells, marks };
+    Answer::from_raw(match command {
+        Command::Read { cell } => raw::read(drive, cache, cell),
+        Command::Write { cell, value } => raw::write(drive, cache, cell, value),
+        Command::Zeroize { cell } => raw::zeroize(drive, cache, cell),
+    })
+}
+
+/// Carries out the mailbox command that `code` names, with this request.
+///
+/// An accepted command writes its response to the start of `response` and,
+/// where it has an order for the engine, the engine block to `block`. Nothing
+/// else changes but the cache, and nothing at all on refusal.
+#[allow(clippy::too_many_arguments)]
+pub fn mailbox(
+    image: &[u8],
+    cells: &mut [u32],
+    marks: &[u32],
+    cache: &mut Cache,
+    code: u32,
+    request: &[u8],
+    response: &mut [u8],
+    block: &mut [u8],
+) -> Reply {
+    let drive = raw::Drive { image, cells, marks };
+    let buffers = raw::Buffers { request, response, block };
+    Reply::from_raw(raw::mailbox(drive, cache, code, buffers))
+}
