@@ -13,6 +13,7 @@ pub record Cache : Type 0 where
   pub kinds : List ℕ
   pub tags : List ℕ
 
+-- the cache in two lent arrays
 abbrev pub cacheOf : (kinds tags : List ℕ) → Cache
 cacheOf kinds tags = record { kinds = kinds; tags = tags }
 
@@ -34,6 +35,7 @@ isAt c (Tag tag) k = not (emptyAt c k) && eqb (getD (c .tags) k 0) tag
 abbrev pub lowestPlace : Cache → Sought → ℕ
 lowestPlace c sought = firstBelow (isAt c sought) places
 
+-- there is a place of those sought
 abbrev pub hasPlace : Cache → Sought → Bool
 hasPlace c sought = ltb (lowestPlace c sought) places
 

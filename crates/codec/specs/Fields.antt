@@ -12,6 +12,7 @@ use Rattle.codec.specs.declared.Command.the-variants.{Clkc, Klod, Kunl, 
 
 -- ---- the column "code"
 
+-- "The code names the command"
 abbrev pub commandOf : (code : ℕ) → Command
 commandOf code =
     cond (eqb code 0x434C_4B43) Clkc
@@ -20,6 +21,7 @@ commandOf code =
     (cond (eqb code 0x4653_5441) Fsta
     Unknown)))
 
+-- the codes that 3 does not refuse; FERS joins them with the erasure
 abbrev pub known : Command → Bool
 known Clkc = true
 known Klod = true
@@ -29,6 +31,7 @@ known Unknown = false
 
 -- ---- fields
 
+-- the names of the table's fields
 pub data Field : Type 0 where
   Chksum : Field
   Reserved : Field
@@ -54,6 +57,7 @@ number Place = 7
 number Active-slot = 8
 number Hek-available = 9
 
+-- one field
 abbrev pub same : Field → Field → Bool
 same f g = eqb (number f) (number g)
 
@@ -79,6 +83,7 @@ responseFields Unknown = []
 
 -- ---- what follows from a field list: its length, its fields' places, how it is read, how it is written
 
+-- the bytes of a message
 abbrev pub lengthOf : List Field → ℕ
 lengthOf [] = 0
 lengthOf (field ∷ fields) = width field + lengthOf fields
@@ -100,6 +105,7 @@ tagAt fields message = numberAt fields Tag-low message + 2 ^ 32 * numberAt field
 abbrev pub bytesAt : List Field → Field → (message : List ℕ) → List ℕ
 bytesAt fields field message = take (width field) (drop (placeOf field fields) message)
 
+-- the MEK bytes of a message
 abbrev pub mekAt : List Field → (message : List ℕ) → List ℕ
 mekAt fields message = bytesAt fields Mek message
 
@@ -116,5 +122,6 @@ u32Bytes value field = bytes4 (value field)
 abbrev pub responseBytes : (value : Field → ℕ) → List Field → Field → List ℕ
 responseBytes value fields field = cond (same field Chksum) (bytes4 (responseSum (message (u32Bytes value) (drop 1 fields)))) (u32Bytes value field)
 
+-- a response's bytes
 abbrev pub responseOf : (value : Field → ℕ) → List Field → List ℕ
 responseOf value fields = message (responseBytes value fields) fields

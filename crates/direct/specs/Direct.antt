@@ -35,6 +35,7 @@ wordOf false at cells = getD cells at 0
 
 -- ---- refusals 8, 9 and 10 of a command on the word of partition i that starts at its cell
 
+-- "WRITE burns a data word"
 abbrev pub isData : Role → Bool
 isData Data = true
 isData Digest = false
@@ -58,6 +59,7 @@ clears (Zeroize cell) cells wide = false
 abbrev pub slotInUse : (image : List ℕ) (i : ℕ) → Cache → Bool
 slotInUse image i cache = slot (entryOf image i) && hasPlace cache Held
 
+-- READ changes nothing
 unfoldable pub changesSlot : Command → (image : List ℕ) (i : ℕ) → Cache → Bool
 changesSlot (Read cell) image i cache = false
 changesSlot (Write cell value) image i cache = slotInUse image i cache
@@ -72,6 +74,7 @@ wordTests (Word i role wide) command image cells cache =
     ∷ (changesSlot command image i cache, 10)
     ∷ []
 
+-- all refusals of a command: 1 and 2 for the drive, 7 to 10 for the word
 abbrev pub directTests : (image cells marks : List ℕ) → Cache → Command → List (Bool × ℕ)
 directTests image cells marks cache command =
     driveTests image cells marks ++ wordTests (wordAt image (cellOf command)) command image cells cache
@@ -91,10 +94,12 @@ answerOf (Read cell) secret bound word = Shown word
 answerOf (Write cell value) secret bound word = cond secret Done (Shown word)
 answerOf (Zeroize cell) secret bound word = cond (secret && short bound word) Withheld (Shown word)
 
+-- the answer, and the cells afterwards
 pub record Outcome : Type 0 where
   pub answer : Answer
   pub cells : List ℕ
 
+-- what a command left
 abbrev pub left : Answer → (cells : List ℕ) → Outcome
 left answer cells = record { answer = answer; cells = cells }
 

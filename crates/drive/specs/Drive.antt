@@ -34,6 +34,7 @@ driveTests image cells marks =
     ∷ (not (wholeArrays image cells marks), 2)
     ∷ []
 
+-- the check: the lowest of the two that applies, else the header
 unfoldable pub checkOf : (image cells marks : List ℕ) → Check
 checkOf image cells marks = lowest Refused (driveTests image cells marks) (Ready (headerOf image))
 

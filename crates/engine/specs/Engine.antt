@@ -4,6 +4,7 @@ use mathlib.Core.List.{List, _++_}
 use lib.ListN.{length, replicate}
 use Rattle.endian.specs.Endian.{bytes4}
 
+-- n zero bytes
 abbrev pub zeros : (n : ℕ) → List ℕ
 zeros n = replicate n 0
 

@@ -43,6 +43,7 @@ pub record State : Type 0 where
   pub cells : List ℕ
   pub cache : Cache
 
+-- the two together
 abbrev pub state : (cells : List ℕ) → Cache → State
 state cells cache = record { cells = cells; cache = cache }
 
@@ -120,10 +121,12 @@ module _ (image marks cells : List ℕ) (cache : Cache) (safe : Safe image (stat
 
 -- ---- every list of calls
 
+-- one call keeps the claim
 pub call-safe : (image marks : List ℕ) (call : Call) (s : State) → Safe image s → Safe image (after image marks call s)
 call-safe image marks (Direct command) s safe = direct-safe image marks (s .cells) (s .cache) safe command
 call-safe image marks (Mailbox code request response block) s safe = mailbox-safe image marks (s .cells) (s .cache) safe code request response block
 
+-- so does every list of calls
 pub calls-safe : (image marks : List ℕ) (calls : List Call) (s : State) → Safe image s → Safe image (afterAll image marks calls s)
 calls-safe image marks [] s safe = safe
 calls-safe image marks (call ∷ calls) s safe = calls-safe image marks calls (after image marks call s) (call-safe image marks call s safe)

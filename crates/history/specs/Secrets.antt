@@ -149,12 +149,14 @@ module _ (image cells marks : List ℕ) (cache : Cache) (cell : ℕ) (s : Secret
 
 -- ---- loads
 
+-- an order to load a key
 abbrev pub loads : Order → Bool
 loads Nothing = false
 loads (Clear timeout) = false
 loads (Load place timeout) = true
 loads (Unload place timeout) = false
 
+-- the order that a reply gives the engine
 abbrev pub orderIn : Reply → Order
 orderIn (RefusedCall number) = Nothing
 orderIn (Accepted length order) = order

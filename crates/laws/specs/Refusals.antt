@@ -86,6 +86,7 @@ module _ {A : Type 0} (refuse : ℕ → A) (accepted : A) where
 
 -- ---- a part of the tests that answers a number, 0 where none applies
 
+-- the number of the first that applies
 abbrev pub numberOf : List (Bool × ℕ) → ℕ
 numberOf tests = lowest (λ n. n) tests 0
 

@@ -23,6 +23,7 @@ use Rattle.mailbox.specs.declared.Reply.the-variants.{Refused, Accepted}
 
 -- ---- what a command does where no refusal applies
 
+-- CLKC: "clear" with the timeout
 abbrev pub clearOf : (request : List ℕ) → Action
 clearOf request = Clear (numberAt (requestFields Clkc) Cmd-timeout request)
 
@@ -58,10 +59,11 @@ unloadTests cache request =
     (not (hasPlace cache (Tag (tagAt (requestFields Kunl) request))), 14)
     ∷ []
 
--- what KLOD and KUNL do by their own refusals
+-- what KLOD does by its own refusals
 abbrev pub loadAction : (image cells : List ℕ) → Cache → (request : List ℕ) → Action
 loadAction image cells cache request = lowest Refuse (loadTests image cells cache request) (loadOf cache request)
 
+-- and KUNL
 abbrev pub unloadAction : Cache → (request : List ℕ) → Action
 unloadAction cache request = lowest Refuse (unloadTests cache request) (unloadOf cache request)
 
@@ -73,6 +75,7 @@ ownTests Kunl image cells cache request = unloadTests cache request
 ownTests Fsta image cells cache request = []
 ownTests Unknown image cells cache request = []
 
+-- what a command does by its own refusals
 abbrev pub ownAction : Command → (image cells : List ℕ) → Cache → (request : List ℕ) → Action
 ownAction command image cells cache request = lowest Refuse (ownTests command image cells cache request) (accepted command image cells cache request)
 
@@ -95,6 +98,7 @@ actionOf image cells marks cache code request room block =
 
 -- ---- what an action leaves, the table's columns
 
+-- an action that refuses
 abbrev pub refusing : Action → Bool
 refusing (Refuse n) = true
 refusing (Clear timeout) = false
@@ -102,6 +106,7 @@ refusing (Load place tag timeout) = false
 refusing (Unload place tag timeout) = false
 refusing (Status slot) = false
 
+-- the command whose row of the table an action is
 abbrev pub commandIn : Action → Command
 commandIn (Refuse n) = Unknown
 commandIn (Clear timeout) = Clkc
@@ -159,6 +164,7 @@ replyOf (Status slot) = Accepted (lengthOf (responseFields Fsta)) Nothing
 
 -- ---- what a call leaves
 
+-- the reply, and everything lent afterwards
 pub record Outcome : Type 0 where
   pub reply : Reply
   pub cells : List ℕ
@@ -166,6 +172,7 @@ pub record Outcome : Type 0 where
   pub response : List ℕ
   pub block : List ℕ
 
+-- what a call left
 abbrev pub left : Reply → (cells : List ℕ) → Cache → (response block : List ℕ) → Outcome
 left reply cells cache response block = record { reply = reply; cells = cells; cache = cache; response = response; block = block }
 

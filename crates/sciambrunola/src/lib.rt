@@ -110,6 +110,20 @@ fn flat_reply(reply: Reply) -> SciReply
     }
 }
 
+// A direct command, its answer as numbers.
+fn run_flat(
+    image: &[u8],
+    cells: &mut [u32],
+    marks: &[u32],
+    kinds: &[u8; 16],
+    tags: &[u64; 16],
+    command: Command,
+) -> SciAnswer
+    ensures { λ r. ⌜ Told r (now (cells .exit)) (directOf (now (image .entry)) (now (cells .entry)) (now (marks .entry)) (cacheOf (now (kinds .entry)) (now (tags .entry))) command) ⌝ }
+{
+    flat_answer(direct::run(image, cells, marks, kinds, tags, command))
+}
+
 // READ of the word that starts at `cell`.
 #[no_mangle]
 pub extern "C" fn sci_read(
@@ -122,14 +136,14 @@ pub extern "C" fn sci_read(
 ) -> SciAnswer
     ensures { λ r. ⌜ Told r (now (cells .exit)) (directOf (now (image .entry)) (now (cells .entry)) (now (marks .entry)) (cacheOf (now (kinds .entry)) (now (tags .entry))) (Command.Read cell)) ⌝ }
 {
-    flat_answer(direct::run(
+    run_flat(
         image,
         cells,
         marks,
         kinds,
         tags,
         Command::Read { cell: cell },
-    ))
+    )
 }
 
 // WRITE of a value into the word that starts at `cell`.
@@ -145,17 +159,11 @@ pub extern "C" fn sci_write(
 ) -> SciAnswer
     ensures { λ r. ⌜ Told r (now (cells .exit)) (directOf (now (image .entry)) (now (cells .entry)) (now (marks .entry)) (cacheOf (now (kinds .entry)) (now (tags .entry))) (Command.Write cell value)) ⌝ }
 {
-    flat_answer(direct::run(
-        image,
-        cells,
-        marks,
-        kinds,
-        tags,
-        Command::Write {
-            cell: cell,
-            value: value,
-        },
-    ))
+    let command = Command::Write {
+        cell: cell,
+        value: value,
+    };
+    run_flat(image, cells, marks, kinds, tags, command)
 }
 
 // ZEROIZE of the word that starts at `cell`.
@@ -170,14 +178,14 @@ pub extern "C" fn sci_zeroize(
 ) -> SciAnswer
     ensures { λ r. ⌜ Told r (now (cells .exit)) (directOf (now (image .entry)) (now (cells .entry)) (now (marks .entry)) (cacheOf (now (kinds .entry)) (now (tags .entry))) (Command.Zeroize cell)) ⌝ }
 {
-    flat_answer(direct::run(
+    run_flat(
         image,
         cells,
         marks,
         kinds,
         tags,
         Command::Zeroize { cell: cell },
-    ))
+    )
 }
 
 // A call of the mailbox.

@@ -1,6 +1,6 @@
 -- `cache::put_place` meets its contract: there is no place past 15. Assumes nothing.
 use borrow.Author.Needs.{needs}
-use Rattle.cache.specs.Cache.{cacheOf, placed}
+use Rattle.cache.specs.Cache.{cacheOf}
 use Rattle.cache.specs.Laws.{placed-in, placed-past}
 use Rattle.cache.proofs.put_place.Statement.{statement}
 use Rattle.cache.proofs.put_place.Tie as tie
@@ -15,11 +15,9 @@ element-write-tags : tie.Need-element-write-tags
 element-write-tags c = search needs
 
 returns : tie.Need-returns
-unfolding placed
 returns c = let a = c .before .args in placed-in (cacheOf (a .kinds .now) (a .tags .now)) (a .k) (a .kind) (a .tag) (c .if1 .taken)
 
 returns-2 : tie.Need-returns-2
-unfolding placed
 returns-2 c = let a = c .before .args in placed-past (cacheOf (a .kinds .now) (a .tags .now)) (a .k) (a .kind) (a .tag) (c .if1 .left)
 
 pub put-place-spec : {M : Type 1} → statement M
