@@ -4,7 +4,7 @@ use mathlib.Core.List.{[], _∷_, _++_}
 use Rattle.endian.specs.Endian.{bytes4}
 use Rattle.chksum.specs.Chksum.{requestSum, responseSum}
 
--- FSTA, FERS of partition 0 (its code alone concerns us here), CLKC with timeout 1,000: whatever stands in chksum
+-- FSTA, FERS of partition 0, CLKC with timeout 1,000: whatever stands in chksum
 request-sums :
     requestSum 0x4653_5441 (bytes4 7 ++ bytes4 0) ∷ requestSum 0x4645_5253 (bytes4 7 ++ bytes4 0 ++ bytes4 0) ∷ requestSum 0x434C_4B43 (bytes4 7 ++ bytes4 0 ++ bytes4 1000) ∷ []
     ≡ 0xFFFF_FED2 ∷ 0xFFFF_FED0 ∷ 0xFFFF_FDF8 ∷ []

@@ -7,16 +7,15 @@ use lib.Dec.{eqb, leb}
 use lib.ListN.{length, getD}
 use lib.Bits.{bitOr}
 use Rattle.laws.specs.Refusals.{lowest}
-use Rattle.map.specs.Map.{headerOf, entryOf, lifeCycle, zeroizable, secret, slot}
+use Rattle.map.specs.Map.{headerOf, entryOf, lifeCycle, zeroizable, secret}
 use Rattle.fuse.specs.Fuse.{pairOf, short, cellsIn, burnWord}
 use Rattle.word.specs.declared.Role.{Role}
 use Rattle.word.specs.declared.Role.the-variants.{Data, Digest, Indicator}
 use Rattle.word.specs.declared.Lookup.{Lookup}
 use Rattle.word.specs.declared.Lookup.the-variants.{Word, Nothing}
 use Rattle.word.specs.Word.{wordAt}
-use Rattle.drive.specs.Drive.{Whole, driveTests, countedAt}
-use Rattle.cache.specs.Cache.{Cache, hasPlace}
-use Rattle.cache.specs.declared.Sought.the-variants.{Held}
+use Rattle.drive.specs.Drive.{Whole, driveTests, countedAt, slotInUse}
+use Rattle.cache.specs.Cache.{Cache}
 use Rattle.direct.specs.declared.Command.{Command}
 use Rattle.direct.specs.declared.Command.the-variants.{Read, Write, Zeroize}
 use Rattle.direct.specs.declared.Answer.{Answer}
@@ -55,11 +54,7 @@ clears (Read cell) cells wide = false
 clears (Write cell value) cells wide = not (eqb (bitOr (wordOf wide cell cells) value) value)
 clears (Zeroize cell) cells wide = false
 
--- 10, "slot change while keys are held": "WRITE, ZEROIZE .. on a slot are refused (10) while any place is held"
-abbrev pub slotInUse : (image : List ℕ) (i : ℕ) → Cache → Bool
-slotInUse image i cache = slot (entryOf image i) && hasPlace cache Held
-
--- READ changes nothing
+-- 10, "slot change while keys are held"; READ changes nothing
 unfoldable pub changesSlot : Command → (image : List ℕ) (i : ℕ) → Cache → Bool
 changesSlot (Read cell) image i cache = false
 changesSlot (Write cell value) image i cache = slotInUse image i cache

@@ -8,7 +8,7 @@ use lib.Dec.{leb}
 use Rattle.laws.specs.Refusals.{lowest, numberOf, number-refuses, number-passes, ascendFrom, Given, lowest-tells}
 use Rattle.map.specs.declared.Entry.{Entry}
 use Rattle.map.specs.declared.Header.{Header}
-use Rattle.map.specs.Map.{headerOf, entryOf, lifeCycle, zeroizable, secret, slot}
+use Rattle.map.specs.Map.{headerOf, entryOf, lifeCycle, zeroizable, secret}
 use Rattle.fuse.specs.Fuse.{pairOf}
 use Rattle.word.specs.declared.Role.{Role}
 use Rattle.word.specs.declared.Lookup.{Lookup}
@@ -18,13 +18,12 @@ use Rattle.word.specs.Laws.{word-tells}
 use Rattle.drive.specs.declared.Check.the-variants.{Ready, Refused as NotReady}
 use Rattle.drive.specs.Drive.{driveTests, countedAt, checkOf}
 use Rattle.drive.specs.Laws.{check-refused, check-passed, judged}
-use Rattle.cache.specs.Cache.{Cache, hasPlace}
-use Rattle.cache.specs.declared.Sought.the-variants.{Held}
+use Rattle.cache.specs.Cache.{Cache}
 use Rattle.direct.specs.declared.Command.{Command}
 use Rattle.direct.specs.declared.Command.the-variants.{Read, Write, Zeroize}
 use Rattle.direct.specs.declared.Answer.{Answer}
 use Rattle.direct.specs.declared.Answer.the-variants.{Refused}
-use Rattle.direct.specs.Direct.{isData, forbidden, clears, slotInUse, changesSlot, wordTests, directTests, cellOf, wordOf, cellsAfter, answerOf, Outcome, left, refusedOf, shownOf, carriedOut, onWord, Named, directOf}
+use Rattle.direct.specs.Direct.{isData, forbidden, clears, changesSlot, wordTests, directTests, cellOf, wordOf, cellsAfter, answerOf, Outcome, left, refusedOf, shownOf, carriedOut, onWord, Named, directOf}
 
 -- a word of one cell is a pair with nothing in its high half
 pub low-alone : (x : ℕ) → pairOf x 0 ≡ x
@@ -45,9 +44,6 @@ module _ (image : List ℕ) (i : ℕ) {x : Entry} (e : x ≡ entryOf image i) wh
     pub zeroize-forbidden : {may : Bool} → may ≡ zeroizable x → not may ≡ forbidden (Zeroize cell) image cells i role wide
     unfolding forbidden
     zeroize-forbidden q = rw (q, e)
-
-  pub in-use-is : (cache : Cache) {is-slot held : Bool} → is-slot ≡ slot x → held ≡ hasPlace cache Held → (is-slot && held) ≡ slotInUse image i cache
-  in-use-is cache s h = rw (s, h, e)
 
 -- ---- the number
 

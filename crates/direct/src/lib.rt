@@ -3,7 +3,6 @@
 // `run` is the entry point: it answers for any bytes and any lengths. The definitions are in
 // `specs/Direct`, the laws in `specs/Laws`. It rests on `drive`, `word`, `cache`, `fuse` and what
 // lies below them.
-use cache::Sought;
 use drive::Check;
 use word::Lookup;
 use word::Role;
@@ -15,7 +14,7 @@ ghost use Rattle.map.specs.Map.{headerOf};
 ghost use Rattle.fuse.specs.Fuse.{cellsIn};
 ghost use Rattle.drive.specs.Drive.{Whole};
 ghost use Rattle.cache.specs.Cache.{cacheOf};
-ghost use Rattle.direct.specs.Direct.{cellOf, wordOf, isData, forbidden, clears, slotInUse, changesSlot, wordTests, cellsAfter, answerOf, left, Named, onWord, directOf};
+ghost use Rattle.direct.specs.Direct.{cellOf, wordOf, isData, forbidden, clears, changesSlot, wordTests, cellsAfter, answerOf, left, Named, onWord, directOf};
 
 // A command and the word that it names, by its first cell in the whole array.
 pub enum Command {
@@ -104,21 +103,14 @@ fn would_clear(command: Command, cells: &[u32], wide: bool) -> bool
     }
 }
 
-// Whether a partition is a slot while a key is held.
-fn is_slot_in_use(image: &[u8], i: u32, kinds: &[u8; 16], tags: &[u64; 16]) -> bool
-    ensures { λ r. ⌜ r ≡ slotInUse (now (image .entry)) i (cacheOf (now (kinds .entry)) (now (tags .entry))) ⌝ }
-{
-    map::is_slot(map::read_entry(image, i)) & cache::has_place(kinds, tags, Sought::Held)
-}
-
 // Whether a command changes a slot while a key is held, refusal 10.
 fn changes_slot(command: Command, image: &[u8], i: u32, kinds: &[u8; 16], tags: &[u64; 16]) -> bool
     ensures { λ r. ⌜ r ≡ changesSlot command (now (image .entry)) i (cacheOf (now (kinds .entry)) (now (tags .entry))) ⌝ }
 {
     match command {
         Command::Read { cell: _ } => false,
-        Command::Write { cell: _, value: _ } => is_slot_in_use(image, i, kinds, tags),
-        Command::Zeroize { cell: _ } => is_slot_in_use(image, i, kinds, tags),
+        Command::Write { cell: _, value: _ } => drive::is_slot_in_use(image, i, kinds, tags),
+        Command::Zeroize { cell: _ } => drive::is_slot_in_use(image, i, kinds, tags),
     }
 }
 

@@ -12,6 +12,8 @@ use Rattle.partition.specs.declared.State.{State}
 use Rattle.partition.specs.declared.State.the-variants.{Erased, Torn, Blank, Programmed}
 use Rattle.partition.specs.declared.Survey.{Survey}
 use Rattle.partition.specs.Partition.{counted, surveyOf}
+use Rattle.cache.specs.Cache.{Cache, hasPlace}
+use Rattle.cache.specs.declared.Sought.the-variants.{Held}
 use Rattle.drive.specs.declared.Check.{Check}
 use Rattle.drive.specs.declared.Check.the-variants.{Ready, Refused}
 use Rattle.drive.specs.declared.Surveyed.{Surveyed}
@@ -117,3 +119,9 @@ slotAnswerBy (Ready header) image cells = Slot (activeSlot image cells)
 
 abbrev pub slotAnswerOf : (image cells marks : List ℕ) → SlotAnswer
 slotAnswerOf image cells marks = slotAnswerBy (checkOf image cells marks) image cells
+
+-- ---- slots while a key is held
+
+-- 10, "slot change while keys are held": "WRITE, ZEROIZE and erasure on a slot are refused (10) while any place is held"
+abbrev pub slotInUse : (image : List ℕ) (i : ℕ) → Cache → Bool
+slotInUse image i cache = slot (entryOf image i) && hasPlace cache Held

@@ -18,10 +18,12 @@ use Rattle.partition.specs.declared.State.{State}
 use Rattle.partition.specs.declared.Survey.{Survey}
 use Rattle.partition.specs.Partition.{counted, surveyOf}
 use Rattle.partition.specs.declared.State.the-variants.{Erased, Torn, Blank, Programmed}
+use Rattle.cache.specs.Cache.{Cache, hasPlace}
+use Rattle.cache.specs.declared.Sought.the-variants.{Held}
 use Rattle.drive.specs.declared.Check.the-variants.{Ready, Refused}
 use Rattle.drive.specs.declared.ActiveSlot.{ActiveSlot}
 use Rattle.drive.specs.declared.ActiveSlot.the-variants.{Programmed as ProgrammedSlot, Absent}
-use Rattle.drive.specs.Drive.{Whole, wholeArrays, driveTests, checkOf, cellsOf, surveyAt, countedAt, slotIn, slotAt, present, available, openSlot, activePlace, activeSlot}
+use Rattle.drive.specs.Drive.{Whole, wholeArrays, driveTests, checkOf, cellsOf, surveyAt, countedAt, slotIn, slotAt, present, available, openSlot, activePlace, activeSlot, slotInUse}
 
 -- ---- the check
 
@@ -181,3 +183,8 @@ available-tells image cells e =
     let none : activeSlot image cells ≡ Absent = active-none image cells (omega (arith, w .most)) in
     absurd (false≢true (rw none at e)))
     (decided (ltb i p))
+
+-- ---- a slot while a key is held, at the entry that was read
+
+pub in-use-is : (image : List ℕ) (i : ℕ) {x : Entry} → x ≡ entryOf image i → (cache : Cache) {is-slot held : Bool} → is-slot ≡ slot x → held ≡ hasPlace cache Held → (is-slot && held) ≡ slotInUse image i cache
+in-use-is image i e cache s h = rw (s, h, e)

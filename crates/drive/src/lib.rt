@@ -1,15 +1,17 @@
 // A whole drive: map image, fuse cells and stuck marks together. The refusals that every call
-// shares, a partition's state, and the active slot with its HEK. The public functions with three
-// slices are entry points: they answer for any bytes and any lengths. The definitions are in
-// `specs/Drive`, the laws for callers in `specs/Laws`. It rests on `map` and `partition`, and below
-// them on `endian` and `laws`.
+// shares, a partition's state, the active slot with its HEK, and whether a slot may not change, since
+// a key is held. The public functions with three slices are entry points: they answer for any bytes
+// and any lengths. The definitions are in `specs/Drive`, the laws for callers in `specs/Laws`. It
+// rests on `map`, `partition` and `cache`, and below them on `endian` and `laws`.
+use cache::Sought;
 use map::Header;
 use partition::State;
 use partition::Survey;
 ghost use mathlib.Core.Path.{_≡_};
 ghost use Prim.Native.Nat.{_<_};
 ghost use Rattle.map.specs.Map.{headerOf};
-ghost use Rattle.drive.specs.Drive.{Whole, checkOf, cellsOf, surveyAt, countedAt, surveyedOf, slotAt, present, slotNumber, available, activeSlot, slotAnswerOf};
+ghost use Rattle.cache.specs.Cache.{cacheOf};
+ghost use Rattle.drive.specs.Drive.{Whole, checkOf, cellsOf, surveyAt, countedAt, surveyedOf, slotAt, present, slotNumber, available, activeSlot, slotAnswerOf, slotInUse};
 
 // Refusal 1 or 2, or the header of a good map whose arrays have its length.
 pub enum Check {
@@ -55,7 +57,7 @@ pub fn check_drive(image: &[u8], cells: &[u32], marks: &[u32]) -> Check
 
 // The cells of partition `i` of a drive that was judged: the part of the array that starts where the
 // partition starts.
-fn part_of<'a>(image: &[u8], cells: &'a [u32], i: u32) -> &'a [u32]
+pub fn part_of<'a>(image: &[u8], cells: &'a [u32], i: u32) -> &'a [u32]
     requires { ⌜ Whole (now image) (now cells) × (i < headerOf (now image) .partitions) ⌝ }
     ensures { λ r. ⌜ now r ≡ cellsOf (now (image .entry)) (now (cells .entry)) i ⌝ }
 {
@@ -192,4 +194,11 @@ pub fn active_slot(image: &[u8], cells: &[u32], marks: &[u32]) -> SlotAnswer
         Check::Refused(number) => SlotAnswer::Refused(number),
         Check::Ready(_) => SlotAnswer::Slot(active_in(image, cells)),
     }
+}
+
+// Whether a partition is a slot while a key is held, refusal 10 of what would change it.
+pub fn is_slot_in_use(image: &[u8], i: u32, kinds: &[u8; 16], tags: &[u64; 16]) -> bool
+    ensures { λ r. ⌜ r ≡ slotInUse (now (image .entry)) i (cacheOf (now (kinds .entry)) (now (tags .entry))) ⌝ }
+{
+    map::is_slot(map::read_entry(image, i)) & cache::has_place(kinds, tags, Sought::Held)
 }

@@ -1,9 +1,9 @@
 -- What a Boolean test tells, once for every layer. Assumes nothing.
-use Prim.Native.Nat.{ℕ, zero, suc, _<_}
+use Prim.Native.Nat.{ℕ, zero, suc, _≤_, _<_}
 use mathlib.Core.Path.{_≡_, refl, sym, _∙_}
 use mathlib.Core.Logic.{_⊎_, inl, inr, ⊎-elim}
 use mathlib.Core.List.{List, [], _∷_}
-use mathlib.Core.Bool.{Bool, true, false, _&&_, _||_, not, false≢true}
+use mathlib.Core.Bool.{Bool, true, false, cond, _&&_, _||_, not, false≢true}
 use native.Mathlib.Omega.{arith}
 use lib.Dec.{ltb}
 use lib.ListN.{getD}
@@ -18,6 +18,11 @@ decided false = inr refl
 pub not-yes : (b : Bool) → (b ≡ true → ⊥) → b ≡ false
 not-yes true h = absurd (h refl)
 not-yes false h = refl
+
+-- what holds of both of two values, each under its test's answer, holds of the one that the test picks
+pub cond-keeps : {A : Type 0} (P : A → Type 0) (b : Bool) (x y : A) → (b ≡ true → P x) → (b ≡ false → P y) → P (cond b x y)
+cond-keeps P true x y p q = p refl
+cond-keeps P false x y p q = q refl
 
 -- both of two tests
 pub and : (a b : Bool) → (a && b) ≡ true → (a ≡ true) × (b ≡ true)
@@ -45,17 +50,13 @@ pub neither : (a b : Bool) → (a || b) ≡ false → (a ≡ false) × (b ≡ fa
 neither false b e = (refl, e)
 neither true b e = absurd (false≢true (sym e))
 
--- two numbers are in one of three orders
+-- two numbers are in one of two orders, or of three
+pub lt-or-le : (a b : ℕ) → (a < b) ⊎ (b ≤ a)
+lt-or-le a b = ⊎-elim (λ e. inl (ltb-true a b e)) (λ e. inr (ltb-false a b e)) (decided (ltb a b))
+
 pub ordered : (i j : ℕ) → (i < j) ⊎ ((j < i) ⊎ (i ≡ j))
 ordered i j =
-    ⊎-elim
-    (λ (t : ltb i j ≡ true). inl (ltb-true i j t))
-    (λ (n : ltb i j ≡ false).
-    ⊎-elim
-    (λ (t : ltb j i ≡ true). inr (inl (ltb-true j i t)))
-    (λ (m : ltb j i ≡ false). inr (inr (omega (arith, ltb-false i j n, ltb-false j i m))))
-    (decided (ltb j i)))
-    (decided (ltb i j))
+    ⊎-elim (λ (l : i < j). inl l) (λ (n : j ≤ i). ⊎-elim (λ (l : j < i). inr (inl l)) (λ (m : i ≤ j). inr (inr (omega arith))) (lt-or-le j i)) (lt-or-le i j)
 
 -- ---- a list of tests
 

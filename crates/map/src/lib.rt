@@ -5,7 +5,7 @@
 ghost use mathlib.Core.Path.{_≡_};
 ghost use Prim.Native.Nat.{_+_, _*_, _^_, _<_, _≤_};
 ghost use Rattle.laws.specs.Below.{allBelow};
-ghost use Rattle.map.specs.Map.{headerOf, entryOf, endOf, zeroizable, secret, slot, headerGood, fillerGood, entryGood, endBefore, placeGood, mapGood};
+ghost use Rattle.map.specs.Map.{headerOf, entryOf, endOf, software, zeroizable, secret, slot, headerGood, fillerGood, entryGood, endBefore, placeGood, mapGood};
 
 // The four numbers at the start of an image.
 pub struct Header {
@@ -25,6 +25,8 @@ pub struct Entry {
 
 // The kind that a secret partition has.
 const HARDWARE: u8 = 0;
+
+const SOFTWARE: u8 = 1;
 
 // The kind that is never zeroizable.
 const LIFE_CYCLE: u8 = 2;
@@ -67,6 +69,13 @@ pub fn end_of(x: Entry) -> usize
     ensures { λ r. ⌜ r ≡ endOf x ⌝ }
 {
     (x.first as usize) + (x.n as usize)
+}
+
+// Whether a partition is software's: its data words are single cells.
+pub fn is_software(x: Entry) -> bool
+    ensures { λ r. ⌜ r ≡ software x ⌝ }
+{
+    x.kind == SOFTWARE
 }
 
 // Whether a partition can be zeroized.

@@ -9,7 +9,7 @@ use native.Mathlib.Omega.{arith}
 use native.Mathlib.Nat.{eq-or-lt-of-le}
 use lib.Dec.{eqb, leb, ltb}
 use borrow.Author.Tests.{leb-true, ltb-true, ltb-false, eqb-true, eqb-false, lt-ltb, le-ltb, le-leb}
-use Rattle.laws.specs.Tests.{decided, not-yes, and}
+use Rattle.laws.specs.Tests.{decided, not-yes, cond-keeps, and}
 use Rattle.laws.specs.Below.{first-tells, first-is}
 use Rattle.map.specs.declared.Header.{Header}
 use Rattle.map.specs.declared.Entry.{Entry}
@@ -101,10 +101,6 @@ module _ (x : Entry) (i cell : ℕ) where
   Tests (Word j Indicator wide) = (j ≡ i) × (endOf x - cell ≡ 2) × (endOf x - cell < tail (zeroizable x)) × (wide ≡ true)
   Tests Nothing = Unit {0}
 
-  either : (b : Bool) (p q : Lookup) → (b ≡ true → Tests p) → (b ≡ false → Tests q) → Tests (cond b p q)
-  either true p q f g = f refl
-  either false p q f g = g refl
-
   named : (role : Role) (wide : Bool) (j : ℕ) → Tests (Word j role wide) → j ≡ i
   named Data wide j t = t .0
   named Digest wide j t = t .0
@@ -119,13 +115,13 @@ module _ (x : Entry) (i cell : ℕ) where
   tests : Tests (wordIn x i cell)
   unfolding wordIn
   tests =
-      either (ltb (tail (zeroizable x)) (endOf x - cell)) (cond (software x) (Word i Data false) data-word) (cond (eqb (endOf x - cell) (tail (zeroizable x))) (Word i Digest true) last-word)
-      (λ a. either (software x) (Word i Data false) data-word
+      cond-keeps Tests (ltb (tail (zeroizable x)) (endOf x - cell)) (cond (software x) (Word i Data false) data-word) (cond (eqb (endOf x - cell) (tail (zeroizable x))) (Word i Digest true) last-word)
+      (λ a. cond-keeps Tests (software x) (Word i Data false) data-word
       (λ b. (refl, ltb-true _ _ a, sym (ap not b), λ n. absurd (false≢true n)))
-      (λ b. either (eqb (cell % 2) 0) (Word i Data true) Nothing (λ d. (refl, ltb-true _ _ a, sym (ap not b), λ _. eqb-true _ _ d)) (λ d. tt)))
-      (λ a. either (eqb (endOf x - cell) (tail (zeroizable x))) (Word i Digest true) last-word
+      (λ b. cond-keeps Tests (eqb (cell % 2) 0) (Word i Data true) Nothing (λ d. (refl, ltb-true _ _ a, sym (ap not b), λ _. eqb-true _ _ d)) (λ d. tt)))
+      (λ a. cond-keeps Tests (eqb (endOf x - cell) (tail (zeroizable x))) (Word i Digest true) last-word
       (λ b. (refl, eqb-true _ _ b, refl))
-      (λ b. either (eqb (endOf x - cell) 2) (Word i Indicator true) Nothing
+      (λ b. cond-keeps Tests (eqb (endOf x - cell) 2) (Word i Indicator true) Nothing
       (λ d. (refl, eqb-true _ _ d, below (endOf x - cell) (tail (zeroizable x)) (ltb-false _ _ a) (eqb-false _ _ b), refl)) (λ d. tt)))
     where
       below : (m n : ℕ) → m ≤ n → (m ≡ n → ⊥) → m < n

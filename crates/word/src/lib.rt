@@ -8,9 +8,6 @@ ghost use Prim.Native.Nat.{_<_};
 ghost use Rattle.map.specs.Map.{endOf};
 ghost use Rattle.word.specs.Word.{holds, partitionOf, wordIn, wordAt};
 
-// The kind whose data words are single cells.
-const SOFTWARE: u8 = 1;
-
 // What a word holds.
 pub enum Role {
     Data,
@@ -62,7 +59,7 @@ fn word_in(x: Entry, i: u32, cell: u32) -> Lookup
     let left = map::end_of(x) - (cell as usize);
     let tail = partition::tail_cells(map::is_zeroizable(x));
     if tail < left {
-        if x.kind == SOFTWARE {
+        if map::is_software(x) {
             return Lookup::Word {
                 partition: i,
                 role: Role::Data,

@@ -1,8 +1,8 @@
--- `direct::is_slot_in_use` meets its contract: at the entry that was read. Assumes nothing.
+-- `drive::is_slot_in_use` meets its contract: at the entry that was read. Assumes nothing.
 use borrow.Author.Needs.{needs}
-use Rattle.direct.specs.Laws.{in-use-is}
-use Rattle.direct.proofs.is_slot_in_use.Statement.{statement}
-use Rattle.direct.proofs.is_slot_in_use.Tie as tie
+use Rattle.drive.specs.Laws.{in-use-is}
+use Rattle.drive.proofs.is_slot_in_use.Statement.{statement}
+use Rattle.drive.proofs.is_slot_in_use.Tie as tie
 
 read-entry-requires : tie.Need-read-entry-requires
 read-entry-requires c κs = search needs
