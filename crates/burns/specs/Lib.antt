@@ -1,0 +1,5 @@
+pub mod Run
+pub mod Turns
+pub mod Cells
+pub mod Safe
+pub mod Vectors

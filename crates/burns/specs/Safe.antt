@@ -1,0 +1,318 @@
+-- What any number of runs on one partition leaves, wherever they were cut: cells that each run keeps safe, and from which each run
+-- goes as it would have gone at the start. Assumes nothing.
+use Prim.Native.Nat.{ℕ, zero, suc, _+_, _-_, _*_, _/_, _%_, _^_, _≤_, _<_}
+use mathlib.Core.Bool.{Bool, true, false, cond, not, false≢true}
+use mathlib.Core.Path.{_≡_, refl, sym, ap, _∙_}
+use mathlib.Core.Logic.{_⊎_, inl, inr, ⊎-elim}
+use mathlib.Core.List.{List, [], _∷_, _++_}
+use native.Mathlib.Omega.{arith}
+use lib.ListN.{length, getD}
+use lib.Seq.{ext-getD}
+use borrow.Author.Tests.{eqb-true, not-true, not-false}
+use Rattle.laws.specs.Tests.{and, not-yes, lt-or-le}
+use Rattle.laws.specs.Bits.{_⊆_}
+use Rattle.fuse.specs.Fuse.{burnWord}
+use Rattle.fuse.specs.Burn.{short-anti}
+use Rattle.partition.specs.Partition.{pairs, shortAt, counted}
+use Rattle.partition.specs.Laws.{counted-is, counted-tells}
+use Rattle.burns.specs.declared.Word.{Word}
+use Rattle.burns.specs.declared.End.{End}
+use Rattle.burns.specs.declared.End.the-variants.{Whole, Stopped, Cut}
+use Rattle.burns.specs.Run.{pairFrom, dataWords, order, allOnes, Tally, start, carry, goesOn, stopsAfter, Ran, ran, burnsOf, run}
+use Rattle.burns.specs.Turns.{stops-later}
+use Rattle.burns.specs.Cells.{full, Between, between-refl, between-trans, full-same, full-stays, Grown, grown-burn, burn-before, burn-fills, turn-keeps, grown-burns, cut-not-whole, stopped-not-whole, cut-not-stopped, run-fills}
+
+-- ---- whether a run goes on after its first burn: all that is said of it here is in these three laws
+
+-- it does where a zeroizable partition of these cells is counted as zeroized
+pub on-counted : (bound : ℕ) (c : List ℕ) → goesOn bound c ≡ counted true bound c
+unfolding goesOn
+on-counted bound c = refl
+
+-- it hangs on the last two cells, the indicator
+on-same : (bound n : ℕ) (c d : List ℕ) → 2 ≤ n → n % 2 ≡ 0 → length c ≡ n → length d ≡ n → ((j : ℕ) → n - 2 ≤ j → j < n → getD c j 0 ≡ getD d j 0) → goesOn bound c ≡ goesOn bound d
+unfolding goesOn counted shortAt
+on-same bound n c d two even p q f =
+    let low = f (2 * (n / 2 - 1)) (omega arith) (omega arith) in
+    let high = f (2 * (n / 2 - 1) + 1) (omega arith) (omega arith) in
+    rw (p, q, low, high)
+
+-- more fuses never stop it
+pub on-mono : (bound : ℕ) (c d : List ℕ) → length d ≡ length c → ((j : ℕ) → getD c j 0 < 2 ^ 32) → ((j : ℕ) → getD d j 0 < 2 ^ 32) → ((j : ℕ) → getD c j 0 ⊆ getD d j 0) → goesOn bound c ≡ true → goesOn bound d ≡ true
+unfolding goesOn shortAt
+on-mono bound c d len small small′ more on =
+    let told = counted-tells true bound c on in
+    let at : ℕ = 2 * (pairs c - 1) in
+    counted-is true bound d refl (rw len (told .1))
+    (rw len (not-yes _ (λ t. false≢true (sym (told .2) ∙ short-anti (small at) (small′ at) (more at) (more (at + 1)) bound t))))
+
+-- ---- past the first burn a run does not hang on the cells
+
+-- two runs end alike, after as many burns
+pub record Alike (r q : Ran) : Type 0 where
+  pub end : r .end ≡ q .end
+  pub burns : r .tally .burns ≡ q .tally .burns
+
+cond-alike : (test : Bool) (x y x′ y′ : Ran) → Alike x x′ → Alike y y′ → Alike (cond test x y) (cond test x′ y′)
+cond-alike true x y x′ y′ p q = p
+cond-alike false x y x′ y′ p q = q
+
+module _ (marks : List ℕ) (bound mask : ℕ) where
+  -- only the first burn can stop a run
+  past-first : (word : Word) (t : Tally) → 1 ≤ t .burns → let u : Tally = carry marks word allOnes t in stopsAfter bound (u .burns) (u .cells) ≡ false
+  past-first word t l = sym (stops-later bound (t .burns + 1) _ (λ e. omega arith))
+
+  later-alike : (k : ℕ) (words : List Word) (t u : Tally) → 1 ≤ t .burns → t .burns ≡ u .burns → Alike (burnsOf marks bound mask k words t) (burnsOf marks bound mask k words u)
+  unfolding burnsOf
+  later-alike k [] t u l e = record { end = refl; burns = e }
+  later-alike zero (word ∷ words) t u l e = record { end = refl; burns = ap (λ (x : ℕ). x + 1) e }
+  later-alike (suc k) (word ∷ words) t u l e =
+      rw (past-first word t l, past-first word u (omega arith))
+      (later-alike k words (carry marks word allOnes t) (carry marks word allOnes u) (omega arith) (ap (λ (x : ℕ). x + 1) e))
+
+  later-on : (k : ℕ) (words : List Word) (t : Tally) → 1 ≤ t .burns → burnsOf marks bound mask k words t .end ≡ Stopped → ⊥
+  unfolding burnsOf
+  later-on k [] t l e = stopped-not-whole (sym e)
+  later-on zero (word ∷ words) t l e = cut-not-stopped e
+  later-on (suc k) (word ∷ words) t l e = later-on k words (carry marks word allOnes t) (omega arith) (rw (past-first word t l) at e)
+
+-- ---- a run by its first burn, the indicator's
+
+-- the tally after it, on n cells that read c, and the words that follow it
+abbrev first : (marks : List ℕ) (n : ℕ) (c : List ℕ) → Tally
+first marks n c = carry marks (pairFrom (n - 2)) allOnes (start c)
+
+abbrev rest : (software : Bool) (n : ℕ) → List Word
+rest software n = dataWords software n ++ (pairFrom (n - 4) ∷ [])
+
+-- the run is cut in it, or stops after it, or goes on with the rest: what holds of all three holds of the run
+first-keeps : (P : Ran → Type 0) (marks : List ℕ) (software : Bool) (bound k mask n : ℕ) (c : List ℕ) → P (ran Cut (carry marks (pairFrom (n - 2)) mask (start c))) → (goesOn bound (first marks n c .cells) ≡ false → P (ran Stopped (first marks n c))) → ((j : ℕ) → goesOn bound (first marks n c .cells) ≡ true → P (burnsOf marks bound mask j (rest software n) (first marks n c))) → P (burnsOf marks bound mask k (order software n) (start c))
+unfolding burnsOf order stopsAfter
+first-keeps P marks software bound zero mask n c p q r = p
+first-keeps P marks software bound (suc k) mask n c p q r =
+    turn-keeps P marks bound mask k (pairFrom (n - 2)) (rest software n) (start c) (λ b. q (not-true _ b)) (λ b. r k (not-false _ b))
+
+-- a run that stops has burned the indicator alone, and does not go on from what that left
+pub run-stopped : (marks : List ℕ) (software : Bool) (bound k mask : ℕ) (s : List ℕ) → run marks software bound k mask s .end ≡ Stopped → (run marks software bound k mask s .tally .cells ≡ burnWord marks (length s - 2) true allOnes s) × (goesOn bound (burnWord marks (length s - 2) true allOnes s) ≡ false)
+run-stopped marks software bound k mask s =
+    let after : List ℕ = burnWord marks (length s - 2) true allOnes s in
+    first-keeps (λ (r : Ran). r .end ≡ Stopped → (r .tally .cells ≡ after) × (goesOn bound after ≡ false)) marks software bound k mask (length s) s
+    (λ e. absurd (cut-not-stopped e)) (λ off _. (refl, off))
+    (λ j _ e. absurd (later-on marks bound mask j (rest software (length s)) (first marks (length s) s) (omega arith) e))
+
+-- ---- the invariant
+
+-- the indicator holds every fuse that it can hold
+abbrev pub IndicatorFull : (marks s c : List ℕ) → Type 0
+IndicatorFull marks s c = (j : ℕ) → length s - 2 ≤ j → j < length s → getD c j 0 ≡ full (getD marks j 0) (getD s j 0)
+
+-- and with that a run goes on
+pub record Closed (marks : List ℕ) (bound : ℕ) (s c : List ℕ) : Type 0 where
+  pub filled : IndicatorFull marks s c
+  pub on : goesOn bound c ≡ true
+
+-- nothing but the indicator has changed
+abbrev pub Untouched : (s c : List ℕ) → Type 0
+Untouched s c = (j : ℕ) → j < length s - 2 → getD c j 0 ≡ getD s j 0
+
+-- the cells c, where runs began at s
+pub record Safe (marks : List ℕ) (bound : ℕ) (s c : List ℕ) : Type 0 where
+  pub len : length c ≡ length s
+  pub between : (j : ℕ) → Between (getD marks j 0) (getD s j 0) (getD c j 0)
+  pub gate : Closed marks bound s c ⊎ Untouched s c
+
+-- before the first run
+pub safe-start : (marks : List ℕ) (bound : ℕ) (s : List ℕ) → Safe marks bound s s
+safe-start marks bound s = record { len = refl; between = λ j. between-refl (getD marks j 0) (getD s j 0); gate = inr (λ j l. refl) }
+
+-- ---- burns of safe cells
+
+module _ (marks : List ℕ) (bound : ℕ) (s : List ℕ) (four : 4 ≤ length s) (even : length s % 2 ≡ 0) where
+  -- from one full indicator a run goes on as from another
+  full-on : (c d : List ℕ) → length c ≡ length s → length d ≡ length s → IndicatorFull marks s c → IndicatorFull marks s d → goesOn bound c ≡ goesOn bound d
+  full-on c d p q f g = on-same bound (length s) c d (omega arith) even p q (λ j a b. f j a b ∙ sym (g j a b))
+
+  -- burns keep cells safe where the indicator was closed before them, or the rest is untouched after them
+  safe-grown : {c d : List ℕ} → Safe marks bound s c → Grown marks c d → Closed marks bound s c ⊎ Untouched s d → Safe marks bound s d
+  safe-grown {c} {d} h g gate =
+      let len = g .len ∙ h .len in
+      record {
+        len = len;
+        between = λ j. between-trans (h .between j) (g .each j);
+        gate = ⊎-elim
+            (λ (k : Closed marks bound s c).
+            let filled : IndicatorFull marks s d = λ j a b. full-stays (getD marks j 0) (getD s j 0) (k .filled j a b) (g .each j) in
+            inl (record { filled = filled; on = full-on d c len (h .len) filled (k .filled) ∙ k .on }))
+            inr gate;
+      }
+
+  -- so does any burn of the indicator
+  safe-burn : (v : ℕ) {c : List ℕ} → Safe marks bound s c → Safe marks bound s (burnWord marks (length s - 2) true v c)
+  safe-burn v {c} h =
+      safe-grown h (grown-burn marks (length s - 2) true v c)
+      (⊎-elim inl (λ (u : Untouched s c). inr (λ j l. burn-before marks (length s - 2) true v c j l ∙ u j l)) (h .gate))
+
+  -- the first burn of a run leaves one and the same indicator, so the run goes on, or not, as it would have at the start
+  first-full : {c : List ℕ} → Safe marks bound s c → IndicatorFull marks s (first marks (length s) c .cells)
+  first-full {c} h j a b = burn-fills marks c j (rw (h .len) b) (length s - 2) true a (omega arith) ∙ full-same (h .between j)
+
+  first-on : {c d : List ℕ} → Safe marks bound s c → Safe marks bound s d → goesOn bound (first marks (length s) c .cells) ≡ goesOn bound (first marks (length s) d .cells)
+  first-on h g = full-on _ _ (safe-burn allOnes h .len) (safe-burn allOnes g .len) (first-full h) (first-full g)
+
+  -- where it does not, the indicator was not closed before, so nothing else has changed
+  off-untouched : {c : List ℕ} → Safe marks bound s c → goesOn bound (first marks (length s) c .cells) ≡ false → Untouched s c
+  off-untouched {c} h off =
+      ⊎-elim
+      (λ (k : Closed marks bound s c). absurd (false≢true (sym off ∙ full-on _ c (safe-burn allOnes h .len) (h .len) (first-full h) (k .filled) ∙ k .on)))
+      (λ (u : Untouched s c). u)
+      (h .gate)
+
+  off-same : {c : List ℕ} → Safe marks bound s c → goesOn bound (first marks (length s) c .cells) ≡ false → first marks (length s) c .cells ≡ first marks (length s) s .cells
+  off-same {c} h off =
+      let g = safe-start marks bound s in
+      let len = safe-burn allOnes h .len in
+      ext-getD 0 _ _ (len ∙ sym (safe-burn allOnes g .len))
+      (λ j l. ⊎-elim
+      (λ (a : j < length s - 2). burn-before marks (length s - 2) true allOnes c j a ∙ off-untouched h off j a ∙ sym (burn-before marks (length s - 2) true allOnes s j a))
+      (λ (a : length s - 2 ≤ j). let m = rw len at l in first-full h j a m ∙ sym (first-full g j a m))
+      (lt-or-le j (length s - 2)))
+
+  alike-from : (software : Bool) (k mask : ℕ) {c d : List ℕ} → Safe marks bound s c → Safe marks bound s d → Alike (burnsOf marks bound mask k (order software (length s)) (start c)) (burnsOf marks bound mask k (order software (length s)) (start d))
+  unfolding burnsOf order stopsAfter
+  alike-from software zero mask h g = record { end = refl; burns = refl }
+  alike-from software (suc k) mask {c} {d} h g =
+      rw (first-on h g)
+      (cond-alike (not (goesOn bound (first marks (length s) d .cells))) _ _ _ _ (record { end = refl; burns = refl })
+      (later-alike marks bound mask k (rest software (length s)) (first marks (length s) c) (first marks (length s) d) (omega arith) refl))
+
+-- ---- a run from any cells
+
+pub length-run : (marks : List ℕ) (software : Bool) (bound k mask : ℕ) (s : List ℕ) → length (run marks software bound k mask s .tally .cells) ≡ length s
+length-run marks software bound k mask s = grown-burns marks bound mask k (order software (length s)) (start s) .len
+
+-- a full cell stays full
+pub filled-kept : (marks : List ℕ) (software : Bool) (bound k mask : ℕ) (c : List ℕ) (j x : ℕ) → getD c j 0 ≡ full (getD marks j 0) x → getD (run marks software bound k mask c .tally .cells) j 0 ≡ full (getD marks j 0) x
+filled-kept marks software bound k mask c j x e = full-stays (getD marks j 0) x e (grown-burns marks bound mask k (order software (length c)) (start c) .each j)
+
+-- ---- a run from safe cells
+
+module _ {marks : List ℕ} {bound : ℕ} {s c : List ℕ} (h : Safe marks bound s c) (four : 4 ≤ length s) (even : length s % 2 ≡ 0) (software : Bool) (k mask : ℕ) where
+  -- it leaves safe cells
+  pub safe-run : Safe marks bound s (run marks software bound k mask c .tally .cells)
+  safe-run =
+      let after = safe-burn marks bound s four even allOnes h in
+      rw (h .len)
+      (first-keeps (λ (r : Ran). Safe marks bound s (r .tally .cells)) marks software bound k mask (length s) c
+      (safe-burn marks bound s four even mask h) (λ _. after)
+      (λ j on. safe-grown marks bound s four even after (grown-burns marks bound mask j (rest software (length s)) (first marks (length s) c))
+      (inl (record { filled = first-full marks bound s four even h; on = on }))))
+
+  -- it ends as the same run from the start
+  pub run-alike : Alike (run marks software bound k mask c) (run marks software bound k mask s)
+  run-alike = rw (h .len) (alike-from marks bound s four even software k mask h (safe-start marks bound s))
+
+  -- where it goes through its order, it fills every cell
+  pub run-full : run marks software bound k mask c .end ≡ Whole → (j : ℕ) → j < length s → getD (run marks software bound k mask c .tally .cells) j 0 ≡ full (getD marks j 0) (getD s j 0)
+  run-full e j l = run-fills marks software bound k mask c j (getD s j 0) (rw (h .len) four) (rw (h .len) even) (rw (h .len) l) (h .between j) e
+
+  -- unless it is cut, it leaves what the same run from the start leaves
+  pub run-cells : (run marks software bound k mask c .end ≡ Cut → ⊥) → run marks software bound k mask c .tally .cells ≡ run marks software bound k mask s .tally .cells
+  run-cells uncut = by (run marks software bound k mask c .end) refl
+    where
+      by : (end : End) → run marks software bound k mask c .end ≡ end → run marks software bound k mask c .tally .cells ≡ run marks software bound k mask s .tally .cells
+      by Whole e =
+          ext-getD 0 _ _ (safe-run .len ∙ sym (length-run marks software bound k mask s))
+          (λ j l.
+          let m : j < length s = rw (safe-run .len) at l in
+          run-full e j m ∙ sym (run-fills marks software bound k mask s j (getD s j 0) four even m (between-refl (getD marks j 0) (getD s j 0)) (sym (run-alike .end) ∙ e)))
+      by Stopped e =
+          let there = rw (h .len) at (run-stopped marks software bound k mask c e) in
+          rw (h .len) (there .0 ∙ off-same marks bound s four even h (there .1) ∙ sym (run-stopped marks software bound k mask s (sym (run-alike .end) ∙ e) .0))
+      by Cut e = absurd (uncut e)
+
+-- ---- a run that is cut too late is not cut, and any other is
+
+module _ (marks : List ℕ) (bound : ℕ) where
+  -- a run carries out no fewer burns than it has
+  burns-grow : (mask k : ℕ) (words : List Word) (t : Tally) → t .burns ≤ burnsOf marks bound mask k words t .tally .burns
+  unfolding burnsOf
+  burns-grow mask k [] t = omega arith
+  burns-grow mask zero (word ∷ words) t = omega arith
+  burns-grow mask (suc k) (word ∷ words) t =
+      turn-keeps (λ (r : Ran). t .burns ≤ r .tally .burns) marks bound mask k word words t
+      (λ _. omega arith) (λ _. omega (arith, burns-grow mask k words (carry marks word allOnes t)))
+
+  -- a run of these words that no cut reaches
+  abbrev uncut : (never : ℕ) (words : List Word) (t : Tally) → Ran
+  uncut never words t = burnsOf marks bound 0 never words t
+
+  either : (P : Ran → Ran → Type 0) (test : Bool) (x y x′ y′ : Ran) → P x x′ → P y y′ → P (cond test x y) (cond test x′ y′)
+  either P true x y x′ y′ p q = p
+  either P false x y x′ y′ p q = q
+
+  burns-late : (mask k never : ℕ) (words : List Word) (t : Tally) → length words ≤ never → uncut never words t .tally .burns ≤ t .burns + k → burnsOf marks bound mask k words t ≡ uncut never words t
+  unfolding burnsOf
+  burns-late mask k never [] t l = λ late. refl
+  burns-late mask zero never (word ∷ words) t l = λ late. absurd (more never l late)
+    where
+      more : (never : ℕ) → length (word ∷ words) ≤ never → uncut never (word ∷ words) t .tally .burns ≤ t .burns + 0 → ⊥
+      more zero l = λ late. omega arith
+      more (suc never) l =
+          turn-keeps (λ (r : Ran). r .tally .burns ≤ t .burns + 0 → ⊥) marks bound 0 never word words t
+          (λ _ late. omega arith) (λ _ late. omega (arith, burns-grow 0 never words (carry marks word allOnes t)))
+  burns-late mask (suc k) zero (word ∷ words) t l = absurd (omega arith)
+  burns-late mask (suc k) (suc never) (word ∷ words) t l =
+      either (λ (r q : Ran). q .tally .burns ≤ t .burns + suc k → r ≡ q) (stopsAfter bound _ _) _ _ _ _
+      (λ late. refl) (λ late. burns-late mask k never words (carry marks word allOnes t) (omega arith) (omega arith))
+
+  burns-early : (mask k never : ℕ) (words : List Word) (t : Tally) → length words ≤ never → t .burns + k < uncut never words t .tally .burns → burnsOf marks bound mask k words t .end ≡ Cut
+  unfolding burnsOf
+  burns-early mask k never [] t l = λ early. absurd (omega arith)
+  burns-early mask zero never (word ∷ words) t l = λ early. refl
+  burns-early mask (suc k) zero (word ∷ words) t l = absurd (omega arith)
+  burns-early mask (suc k) (suc never) (word ∷ words) t l =
+      either (λ (r q : Ran). t .burns + suc k < q .tally .burns → r .end ≡ Cut) (stopsAfter bound _ _) _ _ _ _
+      (λ early. absurd (omega arith)) (λ early. burns-early mask k never words (carry marks word allOnes t) (omega arith) (omega arith))
+
+  burns-never : (mask never : ℕ) (words : List Word) (t : Tally) → length words ≤ never → burnsOf marks bound mask never words t .end ≡ Cut → ⊥
+  unfolding burnsOf
+  burns-never mask never [] t l = λ e. cut-not-whole (sym e)
+  burns-never mask zero (word ∷ words) t l = absurd (omega arith)
+  burns-never mask (suc never) (word ∷ words) t l =
+      turn-keeps (λ (r : Ran). r .end ≡ Cut → ⊥) marks bound mask never word words t
+      (λ _ e. cut-not-stopped (sym e)) (λ _. burns-never mask never words (carry marks word allOnes t) (omega arith))
+
+-- where the cut lies past the order, the run is not cut
+module _ (marks : List ℕ) (software : Bool) (bound : ℕ) (s : List ℕ) (never : ℕ) (l : length (order software (length s)) ≤ never) where
+  pub never-cut : (mask : ℕ) → run marks software bound never mask s .end ≡ Cut → ⊥
+  never-cut mask = burns-never marks bound mask never (order software (length s)) (start s) l
+
+  -- a run that would end before its cut, by its order or by the indicator, is the one that is not cut; any other is cut
+  pub run-late : (k mask : ℕ) → run marks software bound never 0 s .tally .burns ≤ k → run marks software bound k mask s ≡ run marks software bound never 0 s
+  run-late k mask late = burns-late marks bound mask k never (order software (length s)) (start s) l (omega arith)
+
+  pub run-early : (k mask : ℕ) → k < run marks software bound never 0 s .tally .burns → run marks software bound k mask s .end ≡ Cut
+  run-early k mask early = burns-early marks bound mask k never (order software (length s)) (start s) l (omega arith)
+
+-- ---- how many burns a run carries out
+
+-- all of them, or up to the cut, or one
+pub record BurnCount (all upto : ℕ) (r : Ran) : Type 0 where
+  pub whole : r .end ≡ Whole → r .tally .burns ≡ all
+  pub cut : r .end ≡ Cut → r .tally .burns ≡ upto
+  pub stopped : r .end ≡ Stopped → r .tally .burns ≡ 1
+
+burns-counted : (marks : List ℕ) (bound mask k : ℕ) (words : List Word) (t : Tally) → BurnCount (t .burns + length words) (t .burns + (k + 1)) (burnsOf marks bound mask k words t)
+unfolding burnsOf stopsAfter
+burns-counted marks bound mask k [] t = record { whole = λ e. omega arith; cut = λ e. absurd (cut-not-whole (sym e)); stopped = λ e. absurd (stopped-not-whole (sym e)) }
+burns-counted marks bound mask zero (word ∷ words) t = record { whole = λ e. absurd (cut-not-whole e); cut = λ e. omega arith; stopped = λ e. absurd (cut-not-stopped e) }
+burns-counted marks bound mask (suc k) (word ∷ words) t =
+    let next = burns-counted marks bound mask k words (carry marks word allOnes t) in
+    turn-keeps (BurnCount (t .burns + length (word ∷ words)) (t .burns + (suc k + 1))) marks bound mask k word words t
+    (λ b. record { whole = λ e. absurd (stopped-not-whole e); cut = λ e. absurd (cut-not-stopped (sym e)); stopped = λ e. eqb-true _ _ (and _ _ b .0) })
+    (λ b. record { whole = λ e. next .whole e ∙ omega arith; cut = λ e. next .cut e ∙ omega arith; stopped = next .stopped })
+
+pub run-burns : (marks : List ℕ) (software : Bool) (bound k mask : ℕ) (s : List ℕ) → BurnCount (length (order software (length s))) (k + 1) (run marks software bound k mask s)
+run-burns marks software bound k mask s =
+    let r = burns-counted marks bound mask k (order software (length s)) (start s) in
+    record { whole = λ e. r .whole e ∙ omega arith; cut = λ e. r .cut e ∙ omega arith; stopped = r .stopped }

@@ -1,0 +1,46 @@
+-- The order and runs at numbers, by computation: cut and whole, over single cells and over pairs, with stuck fuses. Assumes nothing.
+use Prim.Native.Nat.{ℕ}
+use mathlib.Core.Path.{_≡_, refl}
+use mathlib.Core.Bool.{true, false}
+use mathlib.Core.List.{List, [], _∷_, _++_}
+use lib.ListN.{replicate}
+use lib.Count.{onesIn}
+use Rattle.fuse.specs.Fuse.{burnCell, burnWord}
+use Rattle.partition.specs.Partition.{shortAt, counted}
+use Rattle.burns.specs.declared.End.the-variants.{Whole, Stopped, Cut}
+use Rattle.burns.specs.Run.{wordFrom, pairFrom, wordsFrom, order, tallyOf, goesOn, stopsAfter, ran, burnsOf, run}
+
+abbrev all : ℕ
+all = 0xFFFF_FFFF
+
+abbrev zeros : ℕ → List ℕ
+zeros n = replicate n 0
+
+-- eight cells: indicator, data, digest; in a software partition the data words are single cells
+orders : order false 8 ∷ order true 8 ∷ [] ≡ (pairFrom 6 ∷ pairFrom 0 ∷ pairFrom 2 ∷ pairFrom 4 ∷ []) ∷ (pairFrom 6 ∷ wordFrom false 0 ∷ wordFrom false 1 ∷ wordFrom false 2 ∷ wordFrom false 3 ∷ pairFrom 4 ∷ []) ∷ []
+unfolding order wordsFrom
+orders = refl
+
+runs :
+    -- cut at the indicator; at the second data word; at the digest
+    run (zeros 8) false 60 0 0x3_0000_0005 (zeros 8)
+    ∷ run (zeros 8) false 60 2 0x3_0000_0005 (zeros 8)
+    ∷ run (zeros 8) false 60 3 0x3_0000_0005 (zeros 8)
+    -- a word of one cell takes the mask's low 32 bits
+    ∷ run (zeros 6) true 60 1 0x3_0000_0005 (zeros 6)
+    -- it goes on through a short word, here with five fuses stuck, and begins with the indicator though the first pair is full
+    ∷ run (0 ∷ 0 ∷ 0x1F ∷ zeros 5) false 60 9 0 (all ∷ all ∷ zeros 6)
+    -- four fuses of the indicator stuck, and five, which stop it
+    ∷ run (zeros 6 ++ (0xF ∷ 0 ∷ [])) true 60 9 0 (1 ∷ zeros 7)
+    ∷ run (zeros 6 ++ (0x1F ∷ 0 ∷ [])) true 60 9 0 (1 ∷ zeros 7)
+    ∷ []
+    ≡ ran Cut (tallyOf (0 ∷ 0 ∷ 0 ∷ 0 ∷ 0 ∷ 0 ∷ 5 ∷ 3 ∷ []) 1)
+    ∷ ran Cut (tallyOf (all ∷ all ∷ 5 ∷ 3 ∷ 0 ∷ 0 ∷ all ∷ all ∷ []) 3)
+    ∷ ran Cut (tallyOf (all ∷ all ∷ all ∷ all ∷ 5 ∷ 3 ∷ all ∷ all ∷ []) 4)
+    ∷ ran Cut (tallyOf (5 ∷ 0 ∷ 0 ∷ 0 ∷ all ∷ all ∷ []) 2)
+    ∷ ran Whole (tallyOf (all ∷ all ∷ 0xFFFF_FFE0 ∷ all ∷ all ∷ all ∷ all ∷ all ∷ []) 4)
+    ∷ ran Whole (tallyOf (all ∷ all ∷ all ∷ all ∷ all ∷ all ∷ 0xFFFF_FFF0 ∷ all ∷ []) 6)
+    ∷ ran Stopped (tallyOf (1 ∷ 0 ∷ 0 ∷ 0 ∷ 0 ∷ 0 ∷ 0xFFFF_FFE0 ∷ all ∷ []) 1)
+    ∷ []
+unfolding burnsOf order wordsFrom burnWord burnCell stopsAfter goesOn counted shortAt onesIn
+runs = refl
