@@ -1,0 +1,55 @@
+-- `erasure::attempt` meets its contract: by where the judging ends. Assumes nothing.
+use Rattle.erasure.specs.Laws.{erase-drive, erase-refused, erase-runs, erasable}
+use mathlib.Core.Path.{sym, _∙_}
+use borrow.Author.Needs.{needs}
+use Rattle.erasure.proofs.attempt.Statement.{statement}
+use Rattle.erasure.proofs.attempt.Tie as tie
+
+check-drive-requires : tie.Need-check-drive-requires
+check-drive-requires c κs = search needs
+
+enum-known-number : tie.Need-enum-known-number
+enum-known-number c = search needs
+
+enum-told : tie.Need-enum-told
+enum-told c = search needs
+
+partition-refusal-requires : tie.Need-partition-refusal-requires
+partition-refusal-requires c κs = search needs
+
+same-length : tie.Need-same-length
+same-length c = search needs
+
+returns : tie.Need-returns
+returns c = erase-refused _ _ _ _ _ _ _ (sym (c .before .before .enum-told .given .1) ∙ c .before .before .before .before .check-drive .ensures) _ (c .before .partition-refusal .ensures) (c .if1 .taken)
+
+run-judged-requires : tie.Need-run-judged-requires
+run-judged-requires c κs = erasable _ _ _ _ _ (c .before .before .before .before .before .before .before .before .before .before .args .k) (c .before .before .before .before .before .before .before .before .before .before .args .mask) (sym (c .before .before .before .enum-told .given .1) ∙ c .before .before .before .before .before .check-drive .ensures) (sym (c .before .if1 .left) ∙ c .before .before .partition-refusal .ensures)
+
+same-length-2 : tie.Need-same-length-2
+same-length-2 c = search needs
+
+returns-2 : tie.Need-returns-2
+returns-2 c = erase-drive _ _ _ _ _ _ _ _ (sym (c .before .number .given .1) ∙ c .before .before .before .check-drive .ensures)
+
+same-length-3 : tie.Need-same-length-3
+same-length-3 c = search needs
+
+returns-3 : tie.Need-returns-3
+returns-3 c = c .before .before .run-judged .ensures ∙ erase-runs _ _ _ _ _ _ _ (sym (c .before .before .before .before .before .before .enum-told .given .1) ∙ c .before .before .before .before .before .before .before .before .check-drive .ensures) (sym (c .before .before .before .before .if1 .left) ∙ c .before .before .before .before .before .partition-refusal .ensures)
+
+pub attempt-spec : {M : Type 1} → statement M
+attempt-spec =
+    tie.close
+    (tie.spec
+    check-drive-requires
+    enum-known-number
+    enum-told
+    partition-refusal-requires
+    same-length
+    returns
+    run-judged-requires
+    same-length-2
+    returns-2
+    same-length-3
+    returns-3)

@@ -1,0 +1,135 @@
+-- What document 01 says of erasures and cuts, from their definition: the lowest refusal is given, a cut that comes too late is none, and
+-- each answer tells the burns that the order reaches. Assumes nothing.
+use Prim.Native.Nat.{ℕ, _+_, _≤_, _<_}
+use mathlib.Core.Path.{_≡_, refl, ap, subst, _∙_}
+use mathlib.Core.Bool.{true, false, cond}
+use mathlib.Core.List.{List}
+use native.Mathlib.Omega.{arith}
+use lib.ListN.{length}
+use lib.Dec.{eqb}
+use borrow.Author.Tests.{not-false, leb-false, eqb-true, ne-eqb}
+use Rattle.laws.specs.Tests.{and}
+use Rattle.laws.specs.Refusals.{lowest-elim, lowest-both, Applies, not-applies, Given, lowest-tells}
+use Rattle.map.specs.Map.{headerOf, entryOf, software, mapGood}
+use Rattle.map.specs.Laws.{map-entry}
+use Rattle.burns.specs.declared.End.{End}
+use Rattle.burns.specs.declared.End.the-variants.{Whole, Stopped, Cut as CutEnd}
+use Rattle.burns.specs.Run.{Tally, order}
+use Rattle.burns.specs.Turns.{order-fewer}
+use Rattle.burns.specs.Safe.{run-late, run-early, run-burns, never-cut}
+use Rattle.drive.specs.Drive.{Whole as WholeDrive, wholeArrays, cellsOf}
+use Rattle.cache.specs.Cache.{Cache}
+use Rattle.erasure.specs.declared.Answer.{Answer}
+use Rattle.erasure.specs.declared.Answer.the-variants.{Erased, Cut, Refused}
+use Rattle.erasure.specs.Erasure.{eraseTests, inWhole, runOn, never, answerBy, Outcome, leftBy, refusedOf, eraseOf, erasureOf, isCut}
+use Rattle.erasure.specs.Laws.{part-long, part-small}
+
+-- "Checked in ascending order; the lowest that applies is given, and none is given otherwise"
+pub erase-lowest : (image cells marks : List ℕ) (cache : Cache) (i k mask : ℕ) → Given (refusedOf cells) (eraseTests image cells marks cache i) (leftBy image i (runOn image cells marks i k mask)) (eraseOf image cells marks cache i k mask)
+unfolding eraseOf
+erase-lowest image cells marks cache i k mask = lowest-tells (refusedOf cells) (leftBy image i (runOn image cells marks i k mask)) 1 (eraseTests image cells marks cache i) refl
+
+-- ---- the order of a partition is shorter than any cut that an erasure names which is not cut
+
+module _ (image cells : List ℕ) (i : ℕ) (whole : WholeDrive image cells) (l : i < headerOf image .partitions) where
+  order-ends : length (order (software (entryOf image i)) (length (cellsOf image cells i))) ≤ never
+  order-ends =
+      let long = part-long image cells i whole l in
+      let rules = map-entry image (whole .good) i l in
+      omega (arith, order-fewer (software (entryOf image i)) (length (cellsOf image cells i)) (omega (arith, rules .n-least)), part-small image cells i whole l)
+
+  -- so an erasure that is not to be cut is not
+  pub uncut-judged : (marks : List ℕ) (mask : ℕ) → runOn image cells marks i never mask .end ≡ CutEnd → ⊥
+  unfolding runOn
+  uncut-judged marks mask e = never-cut (cellsOf image marks i) (software (entryOf image i)) (headerOf image .bound) (cellsOf image cells i) never order-ends mask e
+
+  -- and a run that would end before its cut is that erasure's, any other is cut
+  module _ (marks : List ℕ) (k mask : ℕ) where
+    late-run : runOn image cells marks i never 0 .tally .burns ≤ k → runOn image cells marks i k mask ≡ runOn image cells marks i never 0
+    unfolding runOn
+    late-run late = ap (inWhole image cells i) (run-late (cellsOf image marks i) (software (entryOf image i)) (headerOf image .bound) (cellsOf image cells i) never order-ends k mask late)
+
+    early-run : k < runOn image cells marks i never 0 .tally .burns → runOn image cells marks i k mask .end ≡ CutEnd
+    unfolding runOn
+    early-run early = run-early (cellsOf image marks i) (software (entryOf image i)) (headerOf image .bound) (cellsOf image cells i) never order-ends k mask early
+
+    -- in any case it is not cut where its order has at most k burns
+    pub past-order : length (order (software (entryOf image i)) (entryOf image i .n)) ≤ k → runOn image cells marks i k mask .end ≡ CutEnd → ⊥
+    unfolding runOn
+    past-order past e = never-cut (cellsOf image marks i) (software (entryOf image i)) (headerOf image .bound) (cellsOf image cells i) k (rw (part-long image cells i whole l) past) mask e
+
+-- the burns that an answer tells
+abbrev pub burnsIn : Answer → ℕ
+burnsIn (Erased short first burns) = burns
+burnsIn (Cut burns) = burns
+burnsIn (Refused number burns) = burns
+
+burns-in : (image : List ℕ) (i : ℕ) (t : Tally) (end : End) → burnsIn (answerBy end image i t) ≡ t .burns
+burns-in image i t Whole = refl
+burns-in image i t Stopped = refl
+burns-in image i t CutEnd = refl
+
+-- a drive that 1 and 2 do not concern
+pub whole-by : (image cells marks : List ℕ) → mapGood image ≡ true → wholeArrays image cells marks ≡ true → WholeDrive image cells
+unfolding wholeArrays
+whole-by image cells marks good arrays = record { good = good; long = eqb-true _ _ (and _ _ arrays .0) }
+
+module _ (image cells marks : List ℕ) (cache : Cache) (i k mask : ℕ) where
+  abbrev cut : Outcome
+  cut = leftBy image i (runOn image cells marks i k mask)
+
+  abbrev uncut : Outcome
+  uncut = leftBy image i (runOn image cells marks i never 0)
+
+  -- "If the erasure would end before burn k, it runs as uncut", and is then "uncut" though it names a cut
+  pub late-is-uncut : burnsIn (erasureOf image cells marks cache i .answer) ≤ k → eraseOf image cells marks cache i k mask ≡ erasureOf image cells marks cache i
+  unfolding eraseOf
+  late-is-uncut =
+      lowest-both (λ (o u : Outcome). burnsIn (u .answer) ≤ k → o ≡ u) (refusedOf cells) (refusedOf cells) (eraseTests image cells marks cache i) cut uncut
+      (λ n late. refl)
+      (λ none late.
+      let r = runOn image cells marks i never 0 in
+      ap (leftBy image i) (late-run image cells i (whole-by image cells marks (not-false _ (none 0)) (not-false _ (none 1))) (leb-false _ _ (none 2)) marks k mask (rw (burns-in image i (r .tally) (r .end)) at late)))
+
+  -- otherwise it is cut
+  pub early-is-cut : k < burnsIn (erasureOf image cells marks cache i .answer) → isCut (eraseOf image cells marks cache i k mask .answer) ≡ true
+  unfolding eraseOf
+  early-is-cut =
+      lowest-both (λ (o u : Outcome). k < burnsIn (u .answer) → isCut (o .answer) ≡ true) (refusedOf cells) (refusedOf cells) (eraseTests image cells marks cache i) cut uncut
+      (λ n early. absurd (omega arith))
+      (λ none early.
+      let r = runOn image cells marks i never 0 in
+      rw (early-run image cells i (whole-by image cells marks (not-false _ (none 0)) (not-false _ (none 1))) (leb-false _ _ (none 2)) marks k mask (rw (burns-in image i (r .tally) (r .end)) at early)))
+
+-- an erasure that names no cut is not cut, so it leaves the cache as it finds it
+pub erasure-uncut : (image cells marks : List ℕ) (cache : Cache) (i : ℕ) → isCut (erasureOf image cells marks cache i .answer) ≡ false
+unfolding eraseOf
+erasure-uncut image cells marks cache i =
+    lowest-elim (λ (o : Outcome). isCut (o .answer) ≡ false) (refusedOf cells) (eraseTests image cells marks cache i) (leftBy image i (runOn image cells marks i never 0))
+    (λ n _. refl)
+    (λ none. by (runOn image cells marks i never 0 .end) (λ e. uncut-judged image cells i (whole-by image cells marks (not-false _ (none 0)) (not-false _ (none 1))) (leb-false _ _ (none 2)) marks 0 e))
+  where
+    by : (end : End) → (end ≡ CutEnd → ⊥) → isCut (answerBy end image i (runOn image cells marks i never 0 .tally)) ≡ false
+    by Whole o = refl
+    by Stopped o = refl
+    by CutEnd o = absurd (o refl)
+
+-- "the number of burns carried out, equal to the number that this order reaches"; "the burns carried out, k + 1"; "one burn is reported"
+-- for 15, and none for any other refusal
+abbrev pub BurnsTold : (image : List ℕ) (i k : ℕ) → Answer → Type 0
+BurnsTold image i k (Erased short first burns) = burns ≡ length (order (software (entryOf image i)) (entryOf image i .n))
+BurnsTold image i k (Cut burns) = burns ≡ k + 1
+BurnsTold image i k (Refused number burns) = burns ≡ cond (eqb number 15) 1 0
+
+run-tells : (image cells marks : List ℕ) (i k mask : ℕ) → WholeDrive image cells → (l : i < headerOf image .partitions) → (end : End) → runOn image cells marks i k mask .end ≡ end → BurnsTold image i k (answerBy end image i (runOn image cells marks i k mask .tally))
+unfolding runOn
+run-tells image cells marks i k mask whole l Whole e = run-burns (cellsOf image marks i) (software (entryOf image i)) (headerOf image .bound) k mask (cellsOf image cells i) .whole e ∙ ap (λ (n : ℕ). length (order (software (entryOf image i)) n)) (part-long image cells i whole l)
+run-tells image cells marks i k mask whole l Stopped e = run-burns (cellsOf image marks i) (software (entryOf image i)) (headerOf image .bound) k mask (cellsOf image cells i) .stopped e
+run-tells image cells marks i k mask whole l CutEnd e = run-burns (cellsOf image marks i) (software (entryOf image i)) (headerOf image .bound) k mask (cellsOf image cells i) .cut e
+
+pub burns-told : (image cells marks : List ℕ) (cache : Cache) (i k mask : ℕ) → BurnsTold image i k (eraseOf image cells marks cache i k mask .answer)
+unfolding eraseOf
+burns-told image cells marks cache i k mask =
+    lowest-elim (λ (o : Outcome). BurnsTold image i k (o .answer)) (refusedOf cells) (eraseTests image cells marks cache i) (leftBy image i (runOn image cells marks i k mask))
+    (λ n a. rw (ne-eqb n 15 (λ e. not-applies 15 (eraseTests image cells marks cache i) refl (subst (λ (m : ℕ). Applies m (eraseTests image cells marks cache i)) e a))))
+    (λ none. run-tells image cells marks i k mask (whole-by image cells marks (not-false _ (none 0)) (not-false _ (none 1))) (leb-false _ _ (none 2)) (runOn image cells marks i k mask .end) refl)

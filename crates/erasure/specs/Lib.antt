@@ -1,0 +1,5 @@
+pub mod Erasure
+pub mod Laws
+pub mod Parts
+pub mod Cuts
+pub mod Vectors

@@ -1,0 +1,215 @@
+// The erasure of a partition of a drive, whole or cut by a power failure, and the restart. A call is
+// judged, the lowest refusal first; then the one run of `burns` is made over the partition's part of
+// the array, cut or not. `erase`, `erase_cut` and `restart` are the entry points: they answer for any
+// bytes and any lengths. `erase_judged` serves FERS. The definitions are in `specs/Erasure`, the laws
+// in `specs/Laws`, what a run leaves of the whole array in `specs/Parts`, what holds of cuts in
+// `specs/Cuts`. It rests on `burns`, `drive`, `cache` and what lies below them.
+use burns::End;
+use burns::Report;
+use drive::Check;
+use partition::Lowest;
+ghost use mathlib.Core.Path.{_≡_};
+ghost use Prim.Native.Nat.{_^_, _<_, _≤_};
+ghost use Rattle.laws.specs.Refusals.{numberOf};
+ghost use Rattle.map.specs.Map.{headerOf};
+ghost use Rattle.burns.specs.Run.{tallyOf, ranAs};
+ghost use Rattle.drive.specs.Drive.{Whole};
+ghost use Rattle.cache.specs.Cache.{cacheOf, empty};
+ghost use Rattle.erasure.specs.Erasure.{partitionTests, Erasable, runOn, firstShort, answerBy, isCut, cacheAfter, left, leftBy, leftAll, uncutOf, eraseOf, erasureOf, cutErasureOf};
+
+// What an erasure answers: its short pairs, the first cell of the lowest one (0xFFFFFFFF if none) and
+// the burns carried out; or that it was cut, and the burns carried out; or the refusal's number, and
+// the burns carried out, none but the indicator's of refusal 15.
+pub enum Answer {
+    Erased { short: u32, first: u32, burns: u32 },
+    Cut { burns: u32 },
+    Refused { number: u32, burns: u32 },
+}
+
+// The burn that an erasure which is not cut would be cut at: no order reaches it.
+const NEVER: u32 = 0xFFFF_FFFF;
+
+// What is told of the first short cell where no pair is short.
+const NO_CELL: u32 = 0xFFFF_FFFF;
+
+// The lowest of the refusals 7, 8 and 10 that applies to the erasure of a partition, 0 where none
+// does.
+pub fn partition_refusal(image: &[u8], i: u32, kinds: &[u8; 16], tags: &[u64; 16]) -> u32
+    ensures { λ r. ⌜ r ≡ numberOf (partitionTests (now (image .entry)) i (cacheOf (now (kinds .entry)) (now (tags .entry)))) ⌝ }
+{
+    let header = map::read_header(image);
+    if (header.partitions as u32) <= i {
+        return 7;
+    }
+    if !map::is_zeroizable(map::read_entry(image, i)) {
+        return 8;
+    }
+    if drive::is_slot_in_use(image, i, kinds, tags) {
+        return 10;
+    }
+    0
+}
+
+// The run over partition `i`: over its part of the array, which starts where the partition starts.
+fn run_on(image: &[u8], cells: &mut [u32], marks: &[u32], i: u32, k: u32, mask: u64) -> Report
+    requires { ⌜ Erasable (now image) (now cells) (now marks) i ⌝ }
+    ensures { λ r. ⌜ (ranAs r (now (cells .exit)) ≡ runOn (now (image .entry)) (now (cells .entry)) (now (marks .entry)) i k mask) × (r .burns ≤ 2048) ⌝ }
+{
+    let header = map::read_header(image);
+    let x = map::read_entry(image, i);
+    let first = x.first as usize;
+    burns::run(
+        &mut cells[first..first + (x.n as usize)],
+        &marks[first..first + (x.n as usize)],
+        map::is_software(x),
+        header.bound as u64,
+        k as usize,
+        mask,
+    )
+}
+
+// The cell that names a short pair in the whole array, of a partition that starts at `first`.
+fn first_short(first: u16, lowest: Lowest) -> u32
+    requires { ⌜ firstShort first lowest < 2 ^ 32 ⌝ }
+    ensures { λ r. ⌜ r ≡ firstShort first lowest ⌝ }
+{
+    match lowest {
+        Lowest::Cell(k) => (first as u32) + (k as u32),
+        Lowest::Nothing => NO_CELL,
+    }
+}
+
+// What is answered of a run that left these cells.
+fn answer_of(image: &[u8], cells: &[u32], i: u32, report: Report) -> Answer
+    requires { ⌜ Whole (now image) (now cells) × (i < headerOf (now image) .partitions) × (report .burns ≤ 2048) ⌝ }
+    ensures { λ r. ⌜ r ≡ answerBy (report .end) (now (image .entry)) i (tallyOf (now (cells .entry)) (report .burns)) ⌝ }
+{
+    let burns = report.burns as u32;
+    let end = report.end;
+    match end {
+        End::Whole => {
+            let header = map::read_header(image);
+            let x = map::read_entry(image, i);
+            let part = drive::part_of(image, cells, i);
+            let bound = header.bound as u64;
+            Answer::Erased {
+                short: partition::short_pairs(part, bound) as u32,
+                first: first_short(x.first, partition::lowest_short(part, bound)),
+                burns: burns,
+            }
+        }
+        End::Stopped => Answer::Refused {
+            number: 15,
+            burns: burns,
+        },
+        End::Cut => Answer::Cut { burns: burns },
+    }
+}
+
+// The erasure of partition `i` of a drive that was judged, cut at burn `k` if its order reaches it.
+fn run_judged(image: &[u8], cells: &mut [u32], marks: &[u32], i: u32, k: u32, mask: u64) -> Answer
+    requires { ⌜ Erasable (now image) (now cells) (now marks) i ⌝ }
+    ensures { λ r. ⌜ left r (now (cells .exit)) ≡ leftBy (now (image .entry)) i (runOn (now (image .entry)) (now (cells .entry)) (now (marks .entry)) i k mask) ⌝ }
+{
+    let report = run_on(image, cells, marks, i, k, mask);
+    answer_of(image, cells, i, report)
+}
+
+// The erasure of partition `i` of a drive that was judged, not cut.
+pub fn erase_judged(image: &[u8], cells: &mut [u32], marks: &[u32], i: u32) -> Answer
+    requires { ⌜ Erasable (now image) (now cells) (now marks) i ⌝ }
+    ensures { λ r. ⌜ left r (now (cells .exit)) ≡ uncutOf (now (image .entry)) (now (cells .entry)) (now (marks .entry)) i ⌝ }
+{
+    run_judged(image, cells, marks, i, NEVER, 0)
+}
+
+// An erasure, cut at burn `k` if its order reaches it: judged, then carried out unless it is refused.
+fn attempt(
+    image: &[u8],
+    cells: &mut [u32],
+    marks: &[u32],
+    kinds: &[u8; 16],
+    tags: &[u64; 16],
+    i: u32,
+    k: u32,
+    mask: u64,
+) -> Answer
+    ensures { λ r. ⌜ left r (now (cells .exit)) ≡ eraseOf (now (image .entry)) (now (cells .entry)) (now (marks .entry)) (cacheOf (now (kinds .entry)) (now (tags .entry))) i k mask ⌝ }
+{
+    match drive::check_drive(image, cells, marks) {
+        Check::Refused(number) => Answer::Refused {
+            number: number,
+            burns: 0,
+        },
+        Check::Ready(_) => {
+            let number = partition_refusal(image, i, kinds, tags);
+            if number != 0 {
+                return Answer::Refused {
+                    number: number,
+                    burns: 0,
+                };
+            }
+            run_judged(image, cells, marks, i, k, mask)
+        }
+    }
+}
+
+// The erasure of partition `i`.
+pub fn erase(
+    image: &[u8],
+    cells: &mut [u32],
+    marks: &[u32],
+    kinds: &[u8; 16],
+    tags: &[u64; 16],
+    i: u32,
+) -> Answer
+    ensures { λ r. ⌜ left r (now (cells .exit)) ≡ erasureOf (now (image .entry)) (now (cells .entry)) (now (marks .entry)) (cacheOf (now (kinds .entry)) (now (tags .entry))) i ⌝ }
+{
+    attempt(image, cells, marks, kinds, tags, i, NEVER, 0)
+}
+
+// Whether an erasure was cut.
+fn is_cut(answer: Answer) -> bool
+    ensures { λ r. ⌜ r ≡ isCut answer ⌝ }
+{
+    match answer {
+        Answer::Erased {
+            short: _,
+            first: _,
+            burns: _,
+        } => false,
+        Answer::Cut { burns: _ } => true,
+        Answer::Refused {
+            number: _,
+            burns: _,
+        } => false,
+    }
+}
+
+// The erasure of partition `i`, cut by a power failure at burn `k`, of whose word the mask has burned.
+// The power was off, so the cache is empty afterwards, if it was cut.
+pub fn erase_cut(
+    image: &[u8],
+    cells: &mut [u32],
+    marks: &[u32],
+    kinds: &mut [u8; 16],
+    tags: &mut [u64; 16],
+    i: u32,
+    k: u32,
+    mask: u64,
+) -> Answer
+    ensures { λ r. ⌜ leftAll r (now (cells .exit)) (cacheOf (now (kinds .exit)) (now (tags .exit))) ≡ cutErasureOf (now (image .entry)) (now (cells .entry)) (now (marks .entry)) (cacheOf (now (kinds .entry)) (now (tags .entry))) i k mask ⌝ }
+{
+    let answer = attempt(image, cells, marks, kinds, tags, i, k, mask);
+    if is_cut(answer) {
+        cache::clear(kinds, tags);
+    }
+    answer
+}
+
+// A restart: it empties the cache, and is lent nothing else.
+pub fn restart(kinds: &mut [u8; 16], tags: &mut [u64; 16])
+    ensures { λ _. ⌜ cacheOf (now (kinds .exit)) (now (tags .exit)) ≡ empty ⌝ }
+{
+    cache::clear(kinds, tags);
+}
