@@ -8,7 +8,7 @@ use lib.ListN.{take, drop}
 use Rattle.endian.specs.Endian.{u32At, bytes4}
 use Rattle.chksum.specs.Chksum.{responseSum}
 use Rattle.codec.specs.declared.Command.{Command}
-use Rattle.codec.specs.declared.Command.the-variants.{Clkc, Klod, Kunl, Fsta, Unknown}
+use Rattle.codec.specs.declared.Command.the-variants.{Clkc, Klod, Kunl, Fers, Fsta, Unknown}
 
 -- ---- the column "code"
 
@@ -18,14 +18,16 @@ commandOf code =
     cond (eqb code 0x434C_4B43) Clkc
     (cond (eqb code 0x4B4C_4F44) Klod
     (cond (eqb code 0x4B55_4E4C) Kunl
+    (cond (eqb code 0x4645_5253) Fers
     (cond (eqb code 0x4653_5441) Fsta
-    Unknown)))
+    Unknown))))
 
--- the codes that 3 does not refuse; FERS joins them with the erasure
+-- the codes that 3 does not refuse
 abbrev pub known : Command → Bool
 known Clkc = true
 known Klod = true
 known Kunl = true
+known Fers = true
 known Fsta = true
 known Unknown = false
 
@@ -40,7 +42,10 @@ pub data Field : Type 0 where
   Tag-low : Field
   Tag-high : Field
   Mek : Field
+  Partition : Field
   Place : Field
+  Short-pairs : Field
+  First-short : Field
   Active-slot : Field
   Hek-available : Field
 
@@ -53,9 +58,12 @@ number Cmd-timeout = 3
 number Tag-low = 4
 number Tag-high = 5
 number Mek = 6
-number Place = 7
-number Active-slot = 8
-number Hek-available = 9
+number Partition = 7
+number Place = 8
+number Short-pairs = 9
+number First-short = 10
+number Active-slot = 11
+number Hek-available = 12
 
 -- one field
 abbrev pub same : Field → Field → Bool
@@ -70,6 +78,7 @@ abbrev pub requestFields : Command → List Field
 requestFields Clkc = Chksum ∷ Reserved ∷ Cmd-timeout ∷ []
 requestFields Klod = Chksum ∷ Reserved ∷ Cmd-timeout ∷ Tag-low ∷ Tag-high ∷ Mek ∷ []
 requestFields Kunl = Chksum ∷ Reserved ∷ Cmd-timeout ∷ Tag-low ∷ Tag-high ∷ []
+requestFields Fers = Chksum ∷ Reserved ∷ Partition ∷ []
 requestFields Fsta = Chksum ∷ Reserved ∷ []
 requestFields Unknown = []
 
@@ -78,6 +87,7 @@ abbrev pub responseFields : Command → List Field
 responseFields Clkc = Chksum ∷ Fips-status ∷ Reserved ∷ []
 responseFields Klod = Chksum ∷ Fips-status ∷ Reserved ∷ Place ∷ []
 responseFields Kunl = Chksum ∷ Fips-status ∷ Reserved ∷ []
+responseFields Fers = Chksum ∷ Fips-status ∷ Reserved ∷ Short-pairs ∷ First-short ∷ []
 responseFields Fsta = Chksum ∷ Fips-status ∷ Reserved ∷ Active-slot ∷ Hek-available ∷ []
 responseFields Unknown = []
 

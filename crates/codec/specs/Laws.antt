@@ -15,8 +15,8 @@ use Rattle.laws.specs.Refusals.{numberOf}
 use Rattle.endian.specs.Endian.{u32At, u32-at}
 use Rattle.chksum.specs.Chksum.{requestSum}
 use Rattle.codec.specs.declared.Command.{Command}
-use Rattle.codec.specs.declared.Command.the-variants.{Clkc, Klod, Kunl, Fsta, Unknown}
-use Rattle.codec.specs.Fields.{known, Field, Chksum, Reserved, Fips-status, Cmd-timeout, Tag-low, Tag-high, Mek, Place, Active-slot, Hek-available, number, same, width, requestFields, responseFields, lengthOf, placeOf, numberAt, bytesAt, mekAt, message, u32Bytes, responseBytes, responseOf}
+use Rattle.codec.specs.declared.Command.the-variants.{Clkc, Klod, Kunl, Fers, Fsta, Unknown}
+use Rattle.codec.specs.Fields.{known, Field, Chksum, Reserved, Fips-status, Cmd-timeout, Tag-low, Tag-high, Mek, Partition, Place, Short-pairs, First-short, Active-slot, Hek-available, number, same, width, requestFields, responseFields, lengthOf, placeOf, numberAt, bytesAt, mekAt, message, u32Bytes, responseBytes, responseOf}
 use Rattle.codec.specs.Request.{requestTests}
 
 -- ---- a request's number, by the first test that applies
@@ -26,6 +26,7 @@ pub chksum-place : (command : Command) → placeOf Chksum (requestFields command
 chksum-place Clkc = refl
 chksum-place Klod = refl
 chksum-place Kunl = refl
+chksum-place Fers = refl
 chksum-place Fsta = refl
 chksum-place Unknown = refl
 
@@ -33,6 +34,7 @@ pub reserved-place : (command : Command) → known command ≡ true → placeOf 
 reserved-place Clkc k = refl
 reserved-place Klod k = refl
 reserved-place Kunl k = refl
+reserved-place Fers k = refl
 reserved-place Fsta k = refl
 reserved-place Unknown k = absurd (false≢true k)
 
@@ -69,7 +71,7 @@ among field (f ∷ fields) = cond (same field f) true (among field fields)
 
 -- two fields of one number are one
 all-fields : List Field
-all-fields = Chksum ∷ Reserved ∷ Fips-status ∷ Cmd-timeout ∷ Tag-low ∷ Tag-high ∷ Mek ∷ Place ∷ Active-slot ∷ Hek-available ∷ []
+all-fields = Chksum ∷ Reserved ∷ Fips-status ∷ Cmd-timeout ∷ Tag-low ∷ Tag-high ∷ Mek ∷ Partition ∷ Place ∷ Short-pairs ∷ First-short ∷ Active-slot ∷ Hek-available ∷ []
 
 numbered : (field : Field) → getD all-fields (number field) Chksum ≡ field
 unfolding all-fields
@@ -80,7 +82,10 @@ numbered Cmd-timeout = refl
 numbered Tag-low = refl
 numbered Tag-high = refl
 numbered Mek = refl
+numbered Partition = refl
 numbered Place = refl
+numbered Short-pairs = refl
+numbered First-short = refl
 numbered Active-slot = refl
 numbered Hek-available = refl
 
@@ -119,6 +124,7 @@ request-sized : (value : Field → ℕ) (mek : List ℕ) → length mek ≡ 64 �
 request-sized value mek l Clkc = refl
 request-sized value mek l Klod = rw l
 request-sized value mek l Kunl = refl
+request-sized value mek l Fers = refl
 request-sized value mek l Fsta = refl
 request-sized value mek l Unknown = refl
 
@@ -126,6 +132,7 @@ response-sized : (value : Field → ℕ) (command : Command) → sized (response
 response-sized value Clkc = refl
 response-sized value Klod = refl
 response-sized value Kunl = refl
+response-sized value Fers = refl
 response-sized value Fsta = refl
 response-sized value Unknown = refl
 

@@ -9,7 +9,7 @@ ghost use lib.ListN.{length};
 ghost use Rattle.laws.specs.Put.{Put};
 ghost use Rattle.laws.specs.Refusals.{numberOf};
 ghost use Rattle.endian.specs.Endian.{bytes4};
-ghost use Rattle.codec.specs.Fields.{commandOf, known, Cmd-timeout, lengthOf, requestFields, numberAt, tagAt, mekAt};
+ghost use Rattle.codec.specs.Fields.{commandOf, known, Cmd-timeout, Partition, lengthOf, requestFields, numberAt, tagAt, mekAt};
 ghost use Rattle.codec.specs.Request.{requestTests};
 
 // The commands that the mailbox knows, and any other code.
@@ -17,6 +17,7 @@ pub enum Command {
     Clkc,
     Klod,
     Kunl,
+    Fers,
     Fsta,
     Unknown,
 }
@@ -27,15 +28,20 @@ const KLOD: u32 = 0x4B4C_4F44;
 
 const KUNL: u32 = 0x4B55_4E4C;
 
+const FERS: u32 = 0x4645_5253;
+
 const FSTA: u32 = 0x4653_5441;
 
 // Where a request's fields begin. Every request has the first two; CLKC, KLOD and KUNL have the
-// timeout, KLOD and KUNL the tag, at the same places.
+// timeout, KLOD and KUNL the tag, at the same places; FERS has the partition where they have the
+// timeout.
 const CHKSUM: usize = 0;
 
 const RESERVED: usize = 4;
 
 const CMD_TIMEOUT: usize = 8;
+
+const PARTITION: usize = 8;
 
 const TAG_LOW: usize = 12;
 
@@ -58,6 +64,9 @@ pub fn command_of(code: u32) -> Command
     if code == KUNL {
         return Command::Kunl;
     }
+    if code == FERS {
+        return Command::Fers;
+    }
     if code == FSTA {
         return Command::Fsta;
     }
@@ -72,6 +81,7 @@ fn is_known(command: Command) -> bool
         Command::Clkc => true,
         Command::Klod => true,
         Command::Kunl => true,
+        Command::Fers => true,
         Command::Fsta => true,
         Command::Unknown => false,
     }
@@ -85,6 +95,7 @@ fn request_bytes(command: Command) -> usize
         Command::Clkc => 12,
         Command::Klod => 84,
         Command::Kunl => 20,
+        Command::Fers => 12,
         Command::Fsta => 8,
         Command::Unknown => 0,
     }
@@ -114,6 +125,13 @@ pub fn timeout_of(request: &[u8]) -> u32
     ensures { λ r. ⌜ r ≡ numberAt (requestFields Command.Klod) Cmd-timeout (now (request .entry)) ⌝ }
 {
     endian::u32_at(request, CMD_TIMEOUT)
+}
+
+// The partition in a request of FERS.
+pub fn partition_of(request: &[u8]) -> u32
+    ensures { λ r. ⌜ r ≡ numberAt (requestFields Command.Fers) Partition (now (request .entry)) ⌝ }
+{
+    endian::u32_at(request, PARTITION)
 }
 
 // The tag in a request of KLOD or KUNL.

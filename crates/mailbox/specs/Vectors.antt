@@ -1,5 +1,5 @@
--- Document 01, "The small drive", cases 1 and 9, a load and an unload, and each refusal where every later one applies too, by
--- computation. Assumes nothing.
+-- A load, its unload and a clear on the small drive, and each refusal where every later one applies too, by computation. Document 01's cases are
+-- in `history` SmallDrive. Assumes nothing.
 use Prim.Native.Nat.{ℕ}
 use mathlib.Core.Path.{_≡_, refl}
 use mathlib.Core.List.{List, [], _∷_, _++_}
@@ -14,12 +14,12 @@ use Rattle.partition.specs.Partition.{shortAt, counted, zeroCell, stateOf}
 use Rattle.drive.specs.Drive.{wholeArrays, surveyAt, slotAt, openSlot, activeSlot}
 use Rattle.cache.specs.Cache.{Cache, cacheOf, isAt, placed, empty}
 use Rattle.engine.specs.Engine.{zeros}
-use Rattle.engine.specs.declared.Order.the-variants.{Nothing, Clear, Load, Unload}
+use Rattle.engine.specs.declared.Order.the-variants.{Clear, Load, Unload}
 use Rattle.codec.specs.Request.{requestTests}
 use Rattle.mailbox.specs.declared.Action.{Action}
 use Rattle.mailbox.specs.declared.Action.the-variants.{Refuse}
 use Rattle.mailbox.specs.declared.Reply.the-variants.{Accepted}
-use Rattle.mailbox.specs.Mailbox.{actionOf, Outcome, left, mailboxOf}
+use Rattle.mailbox.specs.Mailbox.{doneOf, Outcome, left, mailboxOf}
 
 abbrev small : List ℕ
 small = image 2 12 60 8 [] two
@@ -31,27 +31,22 @@ cells = 1 ∷ replicate 11 0
 abbrev call : Cache → (code : ℕ) (request : List ℕ) → Outcome
 call cache code request = mailboxOf small cells (replicate 12 0) cache code request (replicate 24 9) (replicate 128 7)
 
--- case 1: active 0, available 1; the block and the bytes past the response stay
-case-1 : call empty 0x4653_5441 (bytes4 0xFFFF_FED2 ++ bytes4 0) ≡ left (Accepted 20 Nothing) cells empty (bytes4 0xFFFF_FFFF ++ bytes4 0 ++ bytes4 0 ++ bytes4 0 ++ bytes4 1 ++ replicate 4 9) (replicate 128 7)
-unfolding actionOf requestTests mapGood wholeArrays every headerGood fillerGood entryGood placeGood allBelow u16At u32At activeSlot openSlot slotAt surveyAt stateOf counted shortAt zeroCell countBelow firstFrom onesIn
-case-1 = refl
-
--- case 9: the block is all zero, the response 12 zero bytes
-case-9 : call empty 0x434C_4B43 (bytes4 0xFFFF_FDF8 ++ bytes4 0 ++ bytes4 1000) ≡ left (Accepted 12 (Clear 1000)) cells empty (zeros 12 ++ replicate 12 9) (zeros 128)
-unfolding actionOf requestTests mapGood wholeArrays every headerGood fillerGood entryGood placeGood allBelow u16At u32At
-case-9 = refl
-
 -- a load with timeout 5 of the tag 0x100000002 with an MEK of threes, and its unload
 abbrev one-key : Cache
 one-key = cacheOf (1 ∷ zeros 15) (0x1_0000_0002 ∷ zeros 15)
 
 load : call empty 0x4B4C_4F44 (bytes4 0xFFFF_FE0E ++ bytes4 0 ++ bytes4 5 ++ bytes4 2 ++ bytes4 1 ++ replicate 64 3) ≡ left (Accepted 16 (Load 0 5)) cells one-key (zeros 16 ++ replicate 8 9) (replicate 64 3 ++ (2 ∷ 0 ∷ 0 ∷ 0 ∷ 1 ∷ 0 ∷ 0 ∷ 0 ∷ zeros 56))
-unfolding actionOf requestTests mapGood wholeArrays every headerGood fillerGood entryGood placeGood allBelow u16At u32At activeSlot openSlot slotAt surveyAt stateOf counted shortAt zeroCell countBelow firstFrom onesIn isAt placed
+unfolding doneOf requestTests mapGood wholeArrays every headerGood fillerGood entryGood placeGood allBelow u16At u32At activeSlot openSlot slotAt surveyAt stateOf counted shortAt zeroCell countBelow firstFrom onesIn isAt placed
 load = refl
 
 unload : call one-key 0x4B55_4E4C (bytes4 0xFFFF_FEBE ++ bytes4 0 ++ bytes4 5 ++ bytes4 2 ++ bytes4 1) ≡ left (Accepted 12 (Unload 0 5)) cells empty (zeros 12 ++ replicate 12 9) (zeros 64 ++ (2 ∷ 0 ∷ 0 ∷ 0 ∷ 1 ∷ 0 ∷ 0 ∷ 0 ∷ zeros 56))
-unfolding actionOf requestTests mapGood wholeArrays every headerGood fillerGood entryGood placeGood allBelow u16At u32At firstFrom isAt placed
+unfolding doneOf requestTests mapGood wholeArrays every headerGood fillerGood entryGood placeGood allBelow u16At u32At firstFrom isAt placed
 unload = refl
+
+-- a clear with timeout 1,000
+clear : call one-key 0x434C_4B43 (bytes4 0xFFFF_FDF8 ++ bytes4 0 ++ bytes4 1000) ≡ left (Accepted 12 (Clear 1000)) cells empty (zeros 12 ++ replicate 12 9) (zeros 128)
+unfolding doneOf requestTests mapGood wholeArrays every headerGood fillerGood entryGood placeGood allBelow u16At u32At
+clear = refl
 
 -- ---- refusals: each call breaks its own rule and, where it can, every later one
 
@@ -67,7 +62,7 @@ abbrev erased : List ℕ
 erased = replicate 6 0xFFFF_FFFF ++ replicate 6 0
 
 abbrev does : (image cells : List ℕ) → Cache → (code : ℕ) (request : List ℕ) (room block : ℕ) → Action
-does image cells cache code request room block = actionOf image cells (replicate 12 0) cache code request room block
+does image cells cache code request room block = doneOf image cells (replicate 12 0) cache code request room block .action
 
 refusals :
     -- 1 and all the rest
@@ -79,6 +74,10 @@ refusals :
     ∷ does small erased (full 2) 0x4B4C_4F44 (klod 0 1 ++ (0 ∷ [])) 20 128
     ∷ does small erased (full 2) 0x4B4C_4F44 (klod 0 1) 20 128
     ∷ does small erased (full 2) 0x4B4C_4F44 (klod 0xFFFF_FED3 1) 20 128
+    -- 7, 8 and 10, of FERS
+    ∷ does small cells (full 2) 0x4645_5253 (bytes4 0xFFFF_FECE ++ bytes4 0 ++ bytes4 2) 20 128
+    ∷ does small cells (full 2) 0x4645_5253 (bytes4 0xFFFF_FECF ++ bytes4 0 ++ bytes4 1) 20 128
+    ∷ does small cells (full 2) 0x4645_5253 (bytes4 0xFFFF_FED0 ++ bytes4 0 ++ bytes4 0) 20 128
     -- 11 to 13
     ∷ does small erased (full 2) 0x4B4C_4F44 (klod 0xFFFF_FED4 0) 20 128
     ∷ does small cells (full 2) 0x4B4C_4F44 (klod 0xFFFF_FED4 0) 20 128
@@ -86,6 +85,6 @@ refusals :
     -- 14
     ∷ does small cells (full 3) 0x4B55_4E4C (bytes4 0xFFFF_FEC4 ++ bytes4 0 ++ bytes4 0 ++ bytes4 2 ++ bytes4 0) 20 128
     ∷ []
-    ≡ Refuse 1 ∷ Refuse 2 ∷ Refuse 2 ∷ Refuse 2 ∷ Refuse 3 ∷ Refuse 4 ∷ Refuse 5 ∷ Refuse 6 ∷ Refuse 11 ∷ Refuse 12 ∷ Refuse 13 ∷ Refuse 14 ∷ []
-unfolding actionOf requestTests mapGood wholeArrays every headerGood fillerGood entryGood placeGood allBelow u16At u32At activeSlot openSlot slotAt surveyAt stateOf counted shortAt zeroCell countBelow firstFrom onesIn isAt
+    ≡ Refuse 1 ∷ Refuse 2 ∷ Refuse 2 ∷ Refuse 2 ∷ Refuse 3 ∷ Refuse 4 ∷ Refuse 5 ∷ Refuse 6 ∷ Refuse 7 ∷ Refuse 8 ∷ Refuse 10 ∷ Refuse 11 ∷ Refuse 12 ∷ Refuse 13 ∷ Refuse 14 ∷ []
+unfolding doneOf requestTests mapGood wholeArrays every headerGood fillerGood entryGood placeGood allBelow u16At u32At activeSlot openSlot slotAt surveyAt stateOf counted shortAt zeroCell countBelow firstFrom onesIn isAt
 refusals = refl

@@ -1,13 +1,16 @@
 // The mailbox: a code and a request go in; out come a reply with the engine's order, the engine block
-// and a response in the lent buffers, and the key cache as the command leaves it. First the call is
-// judged and its action decided; a refusal then changes nothing. `call` is the entry point: it
-// answers for any bytes and any lengths. The definitions are in `specs/Mailbox`, the laws in
-// `specs/Laws`. It rests on `codec`, `engine`, `cache` and `drive`, and on what lies below them.
+// and a response in the lent buffers, and the fuses and the key cache as the command leaves them.
+// First the call is judged, its action decided and, for FERS, the erasure run; then cache, block and
+// response are written as the action says. A refusal changes nothing, but for the indicator that 15
+// leaves burned. `call` is the entry point: it answers for any bytes and any lengths. The definitions
+// are in `specs/Mailbox`, the laws in `specs/Laws`. It rests on `codec`, `engine`, `cache`, `erasure`
+// and `drive`, and on what lies below them.
 use cache::Sought;
 use codec::Command;
 use drive::ActiveSlot;
 use drive::Check;
 use engine::Order;
+use erasure::Answer;
 ghost use mathlib.Core.Path.{_≡_};
 ghost use mathlib.Core.Bool.{false};
 ghost use Prim.Native.Nat.{_+_, _≤_};
@@ -15,15 +18,16 @@ ghost use lib.ListN.{length};
 ghost use Rattle.laws.specs.Put.{Put};
 ghost use Rattle.drive.specs.Drive.{Whole};
 ghost use Rattle.cache.specs.Cache.{cacheOf};
-ghost use Rattle.mailbox.specs.Mailbox.{loadAction, unloadAction, ownAction, actionOf, refusing, cacheAfter, blockAfter, hekNumber, ownBytes, responseAfter, replyOf, left, mailboxOf, Fits};
+ghost use Rattle.mailbox.specs.Mailbox.{loadAction, unloadAction, fersAction, did, ownDone, doneOf, refusing, cacheAfter, blockAfter, hekNumber, ownBytes, responseAfter, replyOf, left, mailboxOf, Fits};
 
 // What a call does: nothing but refuse, or what its command does with what request, drive and cache
-// give it.
+// give it. Of an erasure, what it did.
 pub enum Action {
     Refuse(u32),
     Clear { timeout: u32 },
     Load { place: u32, tag: u64, timeout: u32 },
     Unload { place: u32, tag: u64, timeout: u32 },
+    Erased { short: u32, first: u32 },
     Status(ActiveSlot),
 }
 
@@ -85,17 +89,58 @@ fn unload_action(kinds: &[u8; 16], tags: &[u64; 16], request: &[u8]) -> Action
     Action::Refuse(14)
 }
 
-// What a command does, by its own refusals, 11 to 14.
-fn own_action(
-    command: Command,
+// What FERS does, by what its erasure answered. It is never cut: no order reaches the cut that it
+// names, so the last case does not happen.
+fn fers_action(answer: Answer) -> Action
+    ensures { λ r. ⌜ r ≡ fersAction answer ⌝ }
+{
+    match answer {
+        Answer::Erased {
+            short,
+            first,
+            burns: _,
+        } => Action::Erased {
+            short: short,
+            first: first,
+        },
+        Answer::Refused { number, burns: _ } => Action::Refuse(number),
+        Answer::Cut { burns: _ } => Action::Refuse(15),
+    }
+}
+
+// Carries out FERS: refusals 7, 8 and 10, and then the erasure, with 15; and answers what it did.
+fn run_fers(
     image: &[u8],
-    cells: &[u32],
+    cells: &mut [u32],
+    marks: &[u32],
     kinds: &[u8; 16],
     tags: &[u64; 16],
     request: &[u8],
 ) -> Action
-    requires { ⌜ Whole (now image) (now cells) ⌝ }
-    ensures { λ r. ⌜ r ≡ ownAction command (now (image .entry)) (now (cells .entry)) (cacheOf (now (kinds .entry)) (now (tags .entry))) (now (request .entry)) ⌝ }
+    requires { ⌜ Whole (now image) (now cells) × (length (now marks) ≡ length (now cells)) ⌝ }
+    ensures { λ r. ⌜ did r (now (cells .exit)) ≡ ownDone Command.Fers (now (image .entry)) (now (cells .entry)) (now (marks .entry)) (cacheOf (now (kinds .entry)) (now (tags .entry))) (now (request .entry)) ⌝ }
+{
+    let partition = codec::partition_of(request);
+    let number = erasure::partition_refusal(image, partition, kinds, tags);
+    if number != 0 {
+        return Action::Refuse(number);
+    }
+    fers_action(erasure::erase_judged(image, cells, marks, partition))
+}
+
+// What a command does, by its own refusals, 7 to 15. FERS alone burns, and does so here, since 15 shows
+// only after its first burn.
+fn own_action(
+    command: Command,
+    image: &[u8],
+    cells: &mut [u32],
+    marks: &[u32],
+    kinds: &[u8; 16],
+    tags: &[u64; 16],
+    request: &[u8],
+) -> Action
+    requires { ⌜ Whole (now image) (now cells) × (length (now marks) ≡ length (now cells)) ⌝ }
+    ensures { λ r. ⌜ did r (now (cells .exit)) ≡ ownDone command (now (image .entry)) (now (cells .entry)) (now (marks .entry)) (cacheOf (now (kinds .entry)) (now (tags .entry))) (now (request .entry)) ⌝ }
 {
     match command {
         Command::Clkc => Action::Clear {
@@ -103,16 +148,17 @@ fn own_action(
         },
         Command::Klod => load_action(image, cells, kinds, tags, request),
         Command::Kunl => unload_action(kinds, tags, request),
+        Command::Fers => run_fers(image, cells, marks, kinds, tags, request),
         Command::Fsta => Action::Status(drive::active_in(image, cells)),
         Command::Unknown => Action::Refuse(3),
     }
 }
 
-// What a call does: every refusal, the lowest first. `room` and `block` are the lengths of the
-// response buffer and of the engine block.
+// What a call does: every refusal, the lowest first; and the burns of FERS. `room` and `block` are
+// the lengths of the response buffer and of the engine block.
 fn action_of(
     image: &[u8],
-    cells: &[u32],
+    cells: &mut [u32],
     marks: &[u32],
     kinds: &[u8; 16],
     tags: &[u64; 16],
@@ -121,7 +167,7 @@ fn action_of(
     room: usize,
     block: usize,
 ) -> Action
-    ensures { λ r. ⌜ r ≡ actionOf (now (image .entry)) (now (cells .entry)) (now (marks .entry)) (cacheOf (now (kinds .entry)) (now (tags .entry))) code (now (request .entry)) room block ⌝ }
+    ensures { λ r. ⌜ did r (now (cells .exit)) ≡ doneOf (now (image .entry)) (now (cells .entry)) (now (marks .entry)) (cacheOf (now (kinds .entry)) (now (tags .entry))) code (now (request .entry)) room block ⌝ }
 {
     match drive::check_drive(image, cells, marks) {
         Check::Refused(number) => Action::Refuse(number),
@@ -134,7 +180,7 @@ fn action_of(
             if number != 0 {
                 return Action::Refuse(number);
             }
-            own_action(command, image, cells, kinds, tags, request)
+            own_action(command, image, cells, marks, kinds, tags, request)
         }
     }
 }
@@ -156,6 +202,7 @@ fn is_refused(action: Action) -> bool
             tag: _,
             timeout: _,
         } => false,
+        Action::Erased { short: _, first: _ } => false,
         Action::Status(_) => false,
     }
 }
@@ -177,6 +224,7 @@ fn update_cache(kinds: &mut [u8; 16], tags: &mut [u64; 16], action: Action)
             tag: _,
             timeout: _,
         } => cache::free(kinds, tags, place),
+        Action::Erased { short: _, first: _ } => (),
         Action::Status(_) => (),
     }
 }
@@ -200,6 +248,7 @@ fn update_block(block: &mut [u8], request: &[u8], action: Action)
             tag,
             timeout: _,
         } => engine::write_block(block, &request[..0], tag),
+        Action::Erased { short: _, first: _ } => (),
         Action::Status(_) => (),
     }
 }
@@ -229,6 +278,10 @@ fn put_fields(out: &mut [u8], at: usize, action: Action) -> usize
             tag: _,
             timeout: _,
         } => at,
+        Action::Erased { short, first } => {
+            let next = endian::put_u32(out, at, short);
+            endian::put_u32(out, next, first)
+        }
         Action::Status(slot) => {
             let next = endian::put_u32(out, at, drive::slot_number(slot));
             endian::put_u32(out, next, hek_number(slot))
@@ -246,46 +299,51 @@ fn respond(response: &mut [u8], action: Action)
     chksum::close(response, end);
 }
 
+// What the caller is told of an action that is no refusal.
+fn accepted(length: u32, order: Order) -> Reply
+    ensures { λ r. ⌜ r ≡ Reply.Accepted length order ⌝ }
+{
+    Reply::Accepted {
+        length: length,
+        order: order,
+    }
+}
+
 // What the caller is told of an action.
 fn reply_of(action: Action) -> Reply
     ensures { λ r. ⌜ r ≡ replyOf action ⌝ }
 {
     match action {
         Action::Refuse(number) => Reply::Refused(number),
-        Action::Clear { timeout } => Reply::Accepted {
-            length: 12,
-            order: Order::Clear { timeout: timeout },
-        },
+        Action::Clear { timeout } => accepted(12, Order::Clear { timeout: timeout }),
         Action::Load {
             place,
             tag: _,
             timeout,
-        } => Reply::Accepted {
-            length: 16,
-            order: Order::Load {
+        } => accepted(
+            16,
+            Order::Load {
                 place: place,
                 timeout: timeout,
             },
-        },
+        ),
         Action::Unload {
             place,
             tag: _,
             timeout,
-        } => Reply::Accepted {
-            length: 12,
-            order: Order::Unload {
+        } => accepted(
+            12,
+            Order::Unload {
                 place: place,
                 timeout: timeout,
             },
-        },
-        Action::Status(_) => Reply::Accepted {
-            length: 20,
-            order: Order::Nothing,
-        },
+        ),
+        Action::Erased { short: _, first: _ } => accepted(20, Order::Nothing),
+        Action::Status(_) => accepted(20, Order::Nothing),
     }
 }
 
-// A call of the mailbox: judged, then carried out unless it is refused.
+// A call of the mailbox: judged, with the burns of FERS; then written out unless it is refused.
 pub fn call(
     image: &[u8],
     cells: &mut [u32],

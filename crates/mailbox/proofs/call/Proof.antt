@@ -1,7 +1,7 @@
--- `mailbox::call` meets its contract: a refusal leaves everything, else each part is as the action leaves it. Assumes nothing.
+-- `mailbox::call` meets its contract: a refusal leaves everything but what FERS has burned, else each part is as the action leaves it. Assumes nothing.
+use Rattle.mailbox.specs.Laws.{Carried, carried, refused-left, carried-left}
 use mathlib.Core.Path.{sym, _∙_}
 use borrow.Author.Needs.{needs}
-use Rattle.mailbox.specs.Laws.{Carried, carried, refused-left, carried-left}
 use Rattle.mailbox.proofs.call.Statement.{statement}
 use Rattle.mailbox.proofs.call.Tie as tie
 
@@ -18,13 +18,11 @@ same-length : tie.Need-same-length
 same-length c = search needs
 
 -- past the refusals, what is carried out finds the lengths that it asks for
-carried-at : (c : tie.Else1) → let a = c .before .before .before .before .before .before .before .before .before .before .before .before .args in Carried (c .before .before .action-of .result) (a .request .now) (a .response .now) (a .block .now)
-carried-at c =
-    let a = c .before .before .before .before .before .before .before .before .before .before .before .before .args in
-    carried _ _ _ _ _ _ (a .response .now) (a .block .now) _ (c .before .before .action-of .ensures) (sym (c .before .is-refused .ensures) ∙ c .if1 .left)
+carried-at : (c : tie.Else1) → let a = c .before .before .before .before .before .before .before .before .before .before .before .before .before .before .args in Carried (c .before .before .before .before .action-of .result) (a .request .now) (a .response .now) (a .block .now)
+carried-at c = let a = c .before .before .before .before .before .before .before .before .before .before .before .before .before .before .args in carried _ _ _ _ _ _ (a .response .now) (a .block .now) _ _ (c .before .before .before .before .action-of .ensures) (sym (c .before .is-refused .ensures) ∙ c .if1 .left)
 
 returns : tie.Need-returns
-returns c = refused-left _ _ _ _ _ _ _ _ _ (c .before .before .before .action-of .ensures) (c .reply-of .ensures) (sym (c .before .before .is-refused .ensures) ∙ c .before .if1 .taken)
+returns c = refused-left _ _ _ _ _ _ _ _ _ _ (c .before .before .before .before .before .action-of .ensures) (c .reply-of .ensures) (sym (c .before .before .is-refused .ensures) ∙ c .before .if1 .taken)
 
 update-cache-requires : tie.Need-update-cache-requires
 update-cache-requires c κs = search needs
@@ -48,7 +46,7 @@ same-length-4 : tie.Need-same-length-4
 same-length-4 c = search needs
 
 returns-2 : tie.Need-returns-2
-returns-2 c = carried-left _ _ _ _ _ _ _ _ _ (c .before .before .before .before .before .before .before .before .before .before .before .before .before .before .action-of .ensures) (c .reply-of2 .ensures) (c .before .before .before .before .before .before .before .before .before .update-cache .ensures) (c .before .before .before .before .before .before .before .update-block .ensures) (c .before .before .before .respond .ensures)
+returns-2 c = carried-left _ _ _ _ _ _ _ _ _ _ (c .before .before .before .before .before .before .before .before .before .before .before .before .before .before .before .before .action-of .ensures) (c .reply-of2 .ensures) (c .before .before .before .before .before .before .before .before .before .update-cache .ensures) (c .before .before .before .before .before .before .before .update-block .ensures) (c .before .before .before .respond .ensures)
 
 pub call-spec : {M : Type 1} → statement M
 call-spec =

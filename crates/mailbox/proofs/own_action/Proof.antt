@@ -1,7 +1,6 @@
 -- `mailbox::own_action` meets its contract: by the command. Assumes nothing.
-use mathlib.Core.Path.{ap}
+use Rattle.mailbox.specs.Laws.{load-does, unload-does}
 use borrow.Author.Needs.{needs}
-use Rattle.mailbox.specs.declared.Action.the-variants.{Clear, Status}
 use Rattle.mailbox.proofs.own_action.Statement.{statement}
 use Rattle.mailbox.proofs.own_action.Tie as tie
 
@@ -26,26 +25,44 @@ unload-action-requires c κs = search needs
 enum-told-4 : tie.Need-enum-told-4
 enum-told-4 c = search needs
 
-active-in-requires : tie.Need-active-in-requires
-active-in-requires c κs = search needs
+run-fers-requires : tie.Need-run-fers-requires
+run-fers-requires c κs = search needs
 
 enum-told-5 : tie.Need-enum-told-5
 enum-told-5 c = search needs
 
+active-in-requires : tie.Need-active-in-requires
+active-in-requires c κs = search needs
+
+enum-told-6 : tie.Need-enum-told-6
+enum-told-6 c = search needs
+
 returns : tie.Need-returns
-returns c = rw (c .before .enum-told .given .1) (ap Clear (c .timeout-of .ensures))
+returns c = rw (c .before .enum-told .given .1, ← c .timeout-of .ensures)
+
+same-length : tie.Need-same-length
+same-length c = search needs
 
 returns-2 : tie.Need-returns-2
-returns-2 c = rw (c .before .enum-told2 .given .1) (c .load-action .ensures)
+returns-2 c = let a = c .before .before .before .before .before .before .before .before .args in rw (c .before .before .enum-told2 .given .1) (load-does _ _ (a .marks .now) _ _ (c .load-action .ensures))
 
 returns-3 : tie.Need-returns-3
-returns-3 c = rw (c .before .enum-told3 .given .1) (c .unload-action .ensures)
+returns-3 c = let a = c .before .before .before .before .before .before .before .args in rw (c .before .enum-told3 .given .1) (unload-does (a .image .now) _ (a .marks .now) _ _ (c .unload-action .ensures))
+
+same-length-2 : tie.Need-same-length-2
+same-length-2 c = search needs
 
 returns-4 : tie.Need-returns-4
-returns-4 c = rw (c .before .enum-told4 .given .1) (ap Status (c .active-in .ensures))
+returns-4 c = rw (c .before .before .before .before .enum-told4 .given .1) (c .before .before .run-fers .ensures)
+
+same-length-3 : tie.Need-same-length-3
+same-length-3 c = search needs
 
 returns-5 : tie.Need-returns-5
-returns-5 c = rw (c .enum-told5 .given .1)
+returns-5 c = rw (c .before .before .enum-told5 .given .1, ← c .active-in .ensures)
+
+returns-6 : tie.Need-returns-6
+returns-6 c = rw (c .enum-told6 .given .1)
 
 pub own-action-spec : {M : Type 1} → statement M
 own-action-spec =
@@ -58,10 +75,16 @@ own-action-spec =
     enum-told-3
     unload-action-requires
     enum-told-4
-    active-in-requires
+    run-fers-requires
     enum-told-5
+    active-in-requires
+    enum-told-6
     returns
+    same-length
     returns-2
     returns-3
+    same-length-2
     returns-4
-    returns-5)
+    same-length-3
+    returns-5
+    returns-6)

@@ -1,8 +1,8 @@
 -- `mailbox::update_block` meets its contract: by the action; a load's request is long enough for its MEK. Assumes nothing.
-use borrow.Author.Needs.{needs}
-use Rattle.codec.specs.declared.Command.the-variants.{Klod}
-use Rattle.codec.specs.Fields.{requestFields}
 use Rattle.codec.specs.Laws.{mek-most}
+use Rattle.codec.specs.Fields.{requestFields}
+use Rattle.codec.specs.declared.Command.the-variants.{Klod}
+use borrow.Author.Needs.{needs}
 use Rattle.mailbox.proofs.update_block.Statement.{statement}
 use Rattle.mailbox.proofs.update_block.Tie as tie
 
@@ -25,9 +25,7 @@ mek-of-requires : tie.Need-mek-of-requires
 mek-of-requires c κs = rw (c .before .before .action .given .1) at (c .before .before .before .before .before .before .pre .request-long)
 
 write-block-requires-2 : tie.Need-write-block-requires-2
-write-block-requires-2 c κs =
-    let s = c .before .before .before .before .before .before .before in
-    (s .pre .block-long, rw (c .mek-of .ensures) (mek-most (requestFields Klod) (s .args .request .now)))
+write-block-requires-2 c κs = let s = c .before .before .before .before .before .before .before in (s .pre .block-long, rw (c .mek-of .ensures) (mek-most (requestFields Klod) (s .args .request .now)))
 
 enum-known-action-2 : tie.Need-enum-known-action-2
 enum-known-action-2 c = search needs
@@ -40,6 +38,9 @@ write-block-requires-3 c κs = search needs
 
 enum-told-3 : tie.Need-enum-told-3
 enum-told-3 c = search needs
+
+enum-told-4 : tie.Need-enum-told-4
+enum-told-4 c = search needs
 
 returns : tie.Need-returns
 returns c = search needs
@@ -65,6 +66,9 @@ returns-4 c = rw (c .before .before .before .before .before .before .action2 .gi
 returns-5 : tie.Need-returns-5
 returns-5 c = search needs
 
+returns-6 : tie.Need-returns-6
+returns-6 c = search needs
+
 pub update-block-spec : {M : Type 1} → statement M
 update-block-spec =
     tie.close
@@ -80,6 +84,7 @@ update-block-spec =
     slice-aggregate-write-block-2
     write-block-requires-3
     enum-told-3
+    enum-told-4
     returns
     same-length
     returns-2
@@ -87,4 +92,5 @@ update-block-spec =
     returns-3
     same-length-3
     returns-4
-    returns-5)
+    returns-5
+    returns-6)

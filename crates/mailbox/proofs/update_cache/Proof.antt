@@ -27,6 +27,9 @@ free-requires c κs = search needs
 enum-told-3 : tie.Need-enum-told-3
 enum-told-3 c = search needs
 
+enum-told-4 : tie.Need-enum-told-4
+enum-told-4 c = search needs
+
 returns : tie.Need-returns
 returns c = rw (c .enum-told .given .1)
 
@@ -42,6 +45,9 @@ returns-4 c = rw (c .before .before .before .before .action2 .given .1) (c .free
 returns-5 : tie.Need-returns-5
 returns-5 c = rw (c .enum-told3 .given .1)
 
+returns-6 : tie.Need-returns-6
+returns-6 c = rw (c .enum-told4 .given .1)
+
 pub update-cache-spec : {M : Type 1} → statement M
 update-cache-spec =
     tie.close
@@ -54,8 +60,10 @@ update-cache-spec =
     enum-known-action-2
     free-requires
     enum-told-3
+    enum-told-4
     returns
     returns-2
     returns-3
     returns-4
-    returns-5)
+    returns-5
+    returns-6)
