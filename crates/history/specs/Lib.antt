@@ -1,2 +1,7 @@
+pub mod Calls
+pub mod Words
 pub mod Secrets
-pub mod History
+pub mod HeldKeys
+pub mod Refused
+pub mod Demand3
+pub mod SmallDrive

@@ -27,14 +27,15 @@ use Rattle.drive.specs.Laws.{Available, available-tells}
 use Rattle.engine.specs.declared.Order.{Order}
 use Rattle.engine.specs.declared.Order.the-variants.{Nothing, Clear, Load, Unload}
 use Rattle.codec.specs.declared.Command.{Command as Command′}
-use Rattle.codec.specs.declared.Command.the-variants.{Clkc, Klod, Kunl, Fsta, Unknown}
+use Rattle.codec.specs.declared.Command.the-variants.{Clkc, Klod, Kunl, Fers, Fsta, Unknown}
 use Rattle.codec.specs.Fields.{commandOf}
-use Rattle.codec.specs.Request.{requestTests}
-use Rattle.mailbox.specs.declared.Action.{Action}
-use Rattle.mailbox.specs.declared.Action.the-variants.{Refuse}
+use Rattle.erasure.specs.declared.Answer.{Answer as Erasure}
+use Rattle.erasure.specs.declared.Answer.the-variants.{Erased, Cut, Refused as RefusedErasure}
+use Rattle.erasure.specs.Erasure.{uncutOf}
 use Rattle.mailbox.specs.declared.Reply.{Reply}
 use Rattle.mailbox.specs.declared.Reply.the-variants.{Refused as RefusedCall, Accepted}
-use Rattle.mailbox.specs.Mailbox.{accepted, mailboxTests, actionOf, replyOf, mailboxOf}
+use Rattle.mailbox.specs.Laws.{mailbox-elim}
+use Rattle.mailbox.specs.Mailbox.{Done as Done′, fersAction, partitionIn, accepted, replyOf, mailboxOf}
 
 -- an answer that shows a word
 abbrev pub shows : Answer → Bool
@@ -83,11 +84,11 @@ module _ (image cells marks : List ℕ) (cache : Cache) (cell : ℕ) where
   unfolding forbidden carriedOut cellsAfter
   open-by NoWord e =
       lowest-elim (λ (o : Outcome). shows (o .answer) ≡ true → Open image cells cell (o .answer)) (refusedOf cells) (driveTests image cells marks ++ wordTests NoWord (Read cell) image cells cache) (carriedOut NoWord (Read cell) image cells marks)
-      (λ n y. absurd (false≢true y))
+      (λ n _ y. absurd (false≢true y))
       (λ h y. absurd (false≢true y))
   open-by (Word i role wide) e =
       lowest-elim (λ (o : Outcome). shows (o .answer) ≡ true → Open image cells cell (o .answer)) (refusedOf cells) (driveTests image cells marks ++ wordTests (Word i role wide) (Read cell) image cells cache) (carriedOut (Word i role wide) (Read cell) image cells marks)
-      (λ n y. absurd (false≢true y))
+      (λ n _ y. absurd (false≢true y))
       (λ h y.
       let good : mapGood image ≡ true = not-false _ (h 0) in
       record { partition = i; role = role; wide = wide; starts = e; is-word = refl; is-open = h 2; no-secret = elsewhere good (word-tells image good cell i role wide (sym e)) (h 2) })
@@ -135,7 +136,7 @@ module _ (image cells marks : List ℕ) (cache : Cache) (cell : ℕ) (s : Secret
   write-hides value =
       rw (direct-at image cells marks cache (Write cell value) (s .starts))
       (lowest-elim (λ (o : Outcome). shows (o .answer) ≡ false) (refusedOf cells) (driveTests image cells marks ++ wordTests found (Write cell value) image cells cache) (carriedOut found (Write cell value) image cells marks)
-      (λ n. refl)
+      (λ n _. refl)
       (λ h. rw (s .is-secret)))
 
   -- "A value given in answer to ZEROIZE from a secret partition thus has at most 64 - B zeros"
@@ -144,7 +145,7 @@ module _ (image cells marks : List ℕ) (cache : Cache) (cell : ℕ) (s : Secret
   zeroize-shows =
       rw (direct-at image cells marks cache (Zeroize cell) (s .starts))
       (lowest-elim (λ (o : Outcome). shows (o .answer) ≡ true → zerosOf (shownWord (o .answer)) ≤ 64 - headerOf image .bound) (refusedOf cells) (driveTests image cells marks ++ wordTests found (Zeroize cell) image cells cache) (carriedOut found (Zeroize cell) image cells marks)
-      (λ n y. absurd (false≢true y))
+      (λ n _ y. absurd (false≢true y))
       (λ h y. shown-least (secret (entryOf image (s .partition))) (headerOf image .bound) _ (s .is-secret) _ refl y))
 
 -- ---- loads
@@ -161,17 +162,22 @@ abbrev pub orderIn : Reply → Order
 orderIn (RefusedCall number) = Nothing
 orderIn (Accepted length order) = order
 
-load-order : (command : Command′) (image cells : List ℕ) (cache : Cache) (request : List ℕ) → loads (orderIn (replyOf (accepted command image cells cache request))) ≡ true → command ≡ Klod
-load-order Clkc image cells cache request e = absurd (false≢true e)
-load-order Klod image cells cache request e = refl
-load-order Kunl image cells cache request e = absurd (false≢true e)
-load-order Fsta image cells cache request e = absurd (false≢true e)
-load-order Unknown image cells cache request e = absurd (false≢true e)
+fers-order : (answer : Erasure) → loads (orderIn (replyOf (fersAction answer))) ≡ true → ⊥
+fers-order (Erased short first burns) e = false≢true e
+fers-order (Cut burns) e = false≢true e
+fers-order (RefusedErasure number burns) e = false≢true e
+
+load-order : (command : Command′) (image cells marks : List ℕ) (cache : Cache) (request : List ℕ) → loads (orderIn (replyOf (accepted command image cells marks cache request .action))) ≡ true → command ≡ Klod
+load-order Clkc image cells marks cache request e = absurd (false≢true e)
+load-order Klod image cells marks cache request e = refl
+load-order Kunl image cells marks cache request e = absurd (false≢true e)
+load-order Fers image cells marks cache request e = absurd (fers-order (uncutOf image cells marks (partitionIn request) .answer) e)
+load-order Fsta image cells marks cache request e = absurd (false≢true e)
+load-order Unknown image cells marks cache request e = absurd (false≢true e)
 
 -- "No key is loaded unless the active slot is programmed": a call that orders a load finds the HEK available
 pub load-needs-hek : (image cells marks : List ℕ) (cache : Cache) (code : ℕ) (request response block : List ℕ) → loads (orderIn (mailboxOf image cells marks cache code request response block .reply)) ≡ true → Available image cells
-unfolding actionOf requestTests
 load-needs-hek image cells marks cache code request response block =
-    lowest-elim (λ (a : Action). loads (orderIn (replyOf a)) ≡ true → Available image cells) Refuse (mailboxTests image cells marks cache code request (length response) (length block)) (accepted (commandOf code) image cells cache request)
-    (λ n e. absurd (false≢true e))
-    (λ h e. available-tells image cells (not-false _ (rw (load-order (commandOf code) image cells cache request e) at (h 7))))
+    mailbox-elim image cells marks cache code request (length response) (length block) (λ (d : Done′). loads (orderIn (replyOf (d .action))) ≡ true → Available image cells)
+    (λ n _ e. absurd (false≢true e))
+    (λ good arrays none e. available-tells image cells (not-false _ (rw (load-order (commandOf code) image cells marks cache request e) at (none 0))))

@@ -1,0 +1,129 @@
+-- Document 01, "The small drive": cases 1 to 9 in a single table, by computation from the definitions that the entry points' contracts
+-- equal. Assumes nothing.
+use Prim.Native.Nat.{ℕ, _-_, _^_}
+use mathlib.Core.Path.{_≡_, refl}
+use mathlib.Core.Bool.{Bool, true, false}
+use mathlib.Core.List.{List, [], _∷_, _++_, map}
+use lib.ListN.{getD, replicate, set}
+use lib.Count.{onesIn}
+use Rattle.laws.specs.Tests.{every}
+use Rattle.laws.specs.Below.{allBelow, countBelow, firstFrom}
+use Rattle.endian.specs.Endian.{u16At, u32At, bytes4}
+use Rattle.map.specs.Map.{headerGood, fillerGood, entryGood, placeGood, mapGood}
+use Rattle.map.specs.Vectors.{image, two}
+use Rattle.fuse.specs.Fuse.{pairOf, onesOf, burnCell, burnWord}
+use Rattle.partition.specs.declared.State.{State as PartitionState}
+use Rattle.partition.specs.declared.State.the-variants.{Erased, Torn, Programmed}
+use Rattle.partition.specs.Partition.{shortAt, counted, zeroCell, stateOf, lowestShort}
+use Rattle.burns.specs.Run.{wordsFrom, order, goesOn, stopsAfter, burnsOf}
+use Rattle.cache.specs.Cache.{empty, isAt}
+use Rattle.drive.specs.Drive.{wholeArrays, surveyAt, slotAt, openSlot, activeSlot, available}
+use Rattle.engine.specs.declared.Order.the-variants.{Nothing, Clear}
+use Rattle.engine.specs.Engine.{zeros}
+use Rattle.erasure.specs.declared.Answer.the-variants.{Erased as Done, Cut, Refused as NotErased}
+use Rattle.erasure.specs.Erasure.{runOn, eraseOf}
+use Rattle.codec.specs.Request.{requestTests}
+use Rattle.mailbox.specs.declared.Reply.the-variants.{Refused, Accepted}
+use Rattle.mailbox.specs.Mailbox.{doneOf}
+use Rattle.history.specs.Calls.{State, state, Call, Erase, EraseCut, Mailbox, Told, Erasing, Replying, told, after, afterAll}
+
+-- "P = 2, C = 12, B = 60, E = 8 .. Cell 0 is 1, all others 0, no stuck marks, cache empty"
+abbrev small : List ℕ
+small = image 2 12 60 8 [] two
+
+abbrev start : State
+start = state (1 ∷ replicate 11 0) empty
+
+abbrev noMarks : List ℕ
+noMarks = replicate 12 0
+
+-- the fuses of a mark stuck, at a cell
+abbrev stuck : (at mark : ℕ) → List ℕ
+stuck at mark = set noMarks at mark
+
+-- the requests, with the chksum that the document gives or that follows; a buffer of 20 nines and a block of sevens
+abbrev mailbox : (code : ℕ) (request : List ℕ) → Call
+mailbox code request = Mailbox code request (replicate 20 9) (replicate 128 7)
+
+abbrev fsta : Call
+fsta = mailbox 0x4653_5441 (bytes4 0xFFFF_FED2 ++ bytes4 0)
+
+abbrev fers : (chksum partition : ℕ) → Call
+fers chksum partition = mailbox 0x4645_5253 (bytes4 chksum ++ bytes4 0 ++ bytes4 partition)
+
+abbrev clkc : Call
+clkc = mailbox 0x434C_4B43 (bytes4 0xFFFF_FDF8 ++ bytes4 0 ++ bytes4 1000)
+
+-- the low bits of a mask
+abbrev low : (bits : ℕ) → ℕ
+low bits = 2 ^ bits - 1
+
+-- what a case shows: what the call tells, the cells it leaves, the ones of word 0, partition 0's state and short pairs, the HEK
+record Seen : Type 0 where
+  tells : Told
+  cells : List ℕ
+  ones : ℕ
+  state : PartitionState
+  short : ℕ
+  hek : Bool
+
+-- a call after others
+abbrev seen : (marks : List ℕ) (before : List Call) (call : Call) → Seen
+seen marks before call =
+    let s : State = afterAll small marks before start in
+    let c : List ℕ = after small marks call s .cells in
+    record {
+      tells = told small marks call s;
+      cells = c;
+      ones = onesOf (pairOf (getD c 0 0) (getD c 1 0));
+      state = surveyAt small c 0 .state;
+      short = surveyAt small c 0 .short;
+      hek = available (activeSlot small c);
+    }
+
+-- the first six cells, and the second partition's, which no case changes
+abbrev slotCells : (c0 c1 c2 c3 c4 c5 : ℕ) → List ℕ
+slotCells c0 c1 c2 c3 c4 c5 = c0 ∷ c1 ∷ c2 ∷ c3 ∷ c4 ∷ c5 ∷ replicate 6 0
+
+abbrev all : ℕ
+all = 0xFFFF_FFFF
+
+-- a response of 20 bytes: chksum, fips_status, reserved, and two fields
+abbrev response : (chksum one two : ℕ) → List ℕ
+response chksum one two = bytes4 chksum ++ bytes4 0 ++ bytes4 0 ++ bytes4 one ++ bytes4 two
+
+abbrev row : Told → (cells : List ℕ) (ones : ℕ) → PartitionState → (short : ℕ) → Bool → Seen
+row tells cells ones state short hek = record { tells = tells; cells = cells; ones = ones; state = state; short = short; hek = hek }
+
+-- the cases: a call, and what it shows
+cases : List (Seen × Seen)
+cases =
+    -- 1: active 0, available 1
+    (seen noMarks [] fsta, row (Replying (Accepted 20 Nothing) (response 0xFFFF_FFFF 0 1)) (slotCells 1 0 0 0 0 0) 1 Programmed 3 true)
+    -- 2, and the same erasure by a library call, which tells its burns
+    ∷ (seen noMarks [] (fers 0xFFFF_FED0 0), row (Replying (Accepted 20 Nothing) (response 0xFFFF_FC04 0 0xFFFF_FFFF)) (slotCells all all all all all all) 64 Erased 0 false)
+    ∷ (seen noMarks [] (Erase 0), row (Erasing (Done 0 0xFFFF_FFFF 3)) (slotCells all all all all all all) 64 Erased 0 false)
+    -- 3: 60 ones of word 0
+    ∷ (seen (stuck 1 0x0F) [] (fers 0xFFFF_FED0 0), row (Replying (Accepted 20 Nothing) (response 0xFFFF_FC04 0 0xFFFF_FFFF)) (slotCells all 0xFFFF_FFF0 all all all all) 60 Erased 0 false)
+    -- 4: 59 ones
+    ∷ (seen (stuck 1 0x1F) [] (fers 0xFFFF_FED0 0), row (Replying (Accepted 20 Nothing) (response 0xFFFF_FFFF 1 0)) (slotCells all 0xFFFF_FFE0 all all all all) 59 Torn 1 false)
+    -- 5: refusal 15, and what it tells a library caller
+    ∷ (seen (stuck 5 0x1F) [] (fers 0xFFFF_FED0 0), row (Replying (Refused 15) []) (slotCells 1 0 0 0 all 0xFFFF_FFE0) 1 Programmed 3 true)
+    ∷ (seen (stuck 5 0x1F) [] (Erase 0), row (Erasing (NotErased 15 1)) (slotCells 1 0 0 0 all 0xFFFF_FFE0) 1 Programmed 3 true)
+    -- 6: cut at the indicator, 59 bits of it, and 60
+    ∷ (seen noMarks [] (EraseCut 0 0 (low 59)), row (Erasing (Cut 1)) (slotCells 1 0 0 0 all 0x07FF_FFFF) 1 Programmed 3 true)
+    ∷ (seen noMarks [] (EraseCut 0 0 (low 60)), row (Erasing (Cut 1)) (slotCells 1 0 0 0 all 0x0FFF_FFFF) 1 Torn 2 false)
+    -- 7: cut at the first data word, and FERS again, as case 2
+    ∷ (seen noMarks [] (EraseCut 0 1 0xFFFF_FFFF), row (Erasing (Cut 2)) (slotCells all 0 0 0 all all) 32 Torn 2 false)
+    ∷ (seen noMarks (EraseCut 0 1 0xFFFF_FFFF ∷ []) (fers 0xFFFF_FED0 0), row (Replying (Accepted 20 Nothing) (response 0xFFFF_FC04 0 0xFFFF_FFFF)) (slotCells all all all all all all) 64 Erased 0 false)
+    -- 8: partition 1, and 2
+    ∷ (seen noMarks [] (fers 0xFFFF_FECF 1), row (Replying (Refused 8) []) (slotCells 1 0 0 0 0 0) 1 Programmed 3 true)
+    ∷ (seen noMarks [] (fers 0xFFFF_FECE 2), row (Replying (Refused 7) []) (slotCells 1 0 0 0 0 0) 1 Programmed 3 true)
+    -- 9
+    ∷ (seen noMarks [] clkc, row (Replying (Accepted 12 (Clear 1000)) (zeros 12)) (slotCells 1 0 0 0 0 0) 1 Programmed 3 true)
+    ∷ []
+
+-- every call shows what the document says
+table : map (λ (c : Seen × Seen). c .0) cases ≡ map (λ (c : Seen × Seen). c .1) cases
+unfolding cases doneOf requestTests mapGood wholeArrays every headerGood fillerGood entryGood placeGood allBelow u16At u32At activeSlot openSlot slotAt surveyAt stateOf counted shortAt zeroCell countBelow firstFrom onesIn isAt runOn eraseOf burnsOf order wordsFrom stopsAfter goesOn burnWord burnCell lowestShort
+table = refl
