@@ -1,8 +1,9 @@
 /*
  * The proved key block of a drive controller: direct commands on its fuses,
- * the key cache of 16 places, and the mailbox. Link libsciambrunola.a: it is
- * built for x86-64 Linux (System V calling convention), position-independent,
- * with no heap, no C library and no undefined symbol.
+ * the erasure of a partition, the key cache of 16 places, and the mailbox. Link
+ * libsciambrunola.a: it is built for x86-64 Linux (System V calling
+ * convention), position-independent, with no heap, no C library and no
+ * undefined symbol.
  *
  * Any bytes, cells, marks, requests and lengths get an answer, and every call
  * ends. What the caller must see to, and all of it:
@@ -10,24 +11,27 @@
  *     0); a count is in elements of the pointer's type;
  *   - kinds and tags are arrays of SCI_PLACES elements;
  *   - a buffer that a call may write, that is one whose pointer is not const
- *     (cells; for the mailbox also kinds, tags, response and block), overlaps
- *     no other buffer of the call. Buffers that are const may overlap.
+ *     (cells; for sci_erase_cut, sci_restart and sci_mailbox also kinds and
+ *     tags; for sci_mailbox also response and block), overlaps no other buffer
+ *     of the call. Buffers that are const may overlap.
  *
- * What is lent to every function:
+ * What is lent to every function, save that sci_restart gets kinds and tags only:
  *   image, image_bytes  the map of the fuses, little-endian; only read
- *   cells, cell_count   the fuse cells, 32 fuses each; written by sci_write and
- *                       sci_zeroize, and only read by sci_read and sci_mailbox,
- *                       though the pointer is not const there either
+ *   cells, cell_count   the fuse cells, 32 fuses each; written by sci_write,
+ *                       sci_zeroize, sci_erase, sci_erase_cut and, for FERS
+ *                       alone, sci_mailbox. Only read by sci_read, though the
+ *                       pointer is not const there either
  *   marks, mark_count   the stuck marks, one number for each cell; only read
  *   kinds, tags         the key cache: kinds[i] is 0 where place i is empty,
  *                       and tags[i] is then not looked at; otherwise the place
  *                       holds tags[i]. Any kind other than 0 is read as held.
- *                       Written by sci_mailbox alone: a place that it fills
- *                       gets kind 1, one that it empties kind 0 and tag 0. All
- *                       zeros are an empty cache.
+ *                       Written by sci_mailbox, sci_erase_cut and sci_restart
+ *                       alone: a place that is filled gets kind 1, one that is
+ *                       emptied kind 0 and tag 0. All zeros are an empty cache.
  *
  * Refusal numbers. They are checked in ascending order and the lowest that
- * applies is answered. A refused call leaves everything that is lent as it was.
+ * applies is answered. A refused call leaves everything that is lent as it was;
+ * 15 alone leaves the fuses named there.
  *    1  the map breaks a rule
  *    2  cells or marks are not as many as the map says; for the mailbox also
  *       the block is not SCI_BLOCK_BYTES long, or the response buffer is
@@ -44,6 +48,9 @@
  *   12  KLOD, tag held already
  *   13  KLOD, no empty place
  *   14  KUNL, tag not held
+ *   15  the erasure's indicator is short after its burn: it has fewer ones than
+ *       the map's bound. Every fuse of the indicator that is not marked stuck is
+ *       set, and all else is as it was
  */
 #ifndef SCIAMBRUNOLA_H
 #define SCIAMBRUNOLA_H
@@ -68,6 +75,14 @@ extern "C" {
 #define SCI_WITHHELD 2
 #define SCI_REFUSED 3
 
+/* sci_erasure.kind */
+#define SCI_ERASED 0
+#define SCI_CUT 1
+#define SCI_NOT_ERASED 2
+/* sci_erasure.first_short, and the last field of FERS's response, where no pair
+ * is short. */
+#define SCI_NO_CELL UINT32_C(0xFFFFFFFF)
+
 /* sci_reply.order */
 #define SCI_ORDER_NONE 0
 #define SCI_ORDER_CLEAR 1
@@ -78,6 +93,7 @@ extern "C" {
 #define SCI_CLKC UINT32_C(0x434C4B43)
 #define SCI_KLOD UINT32_C(0x4B4C4F44)
 #define SCI_KUNL UINT32_C(0x4B554E4C)
+#define SCI_FERS UINT32_C(0x46455253)
 #define SCI_FSTA UINT32_C(0x46535441)
 
 /* What a direct command answers. */
@@ -86,6 +102,18 @@ typedef struct {
     uint32_t refusal; /* the refusal's number, 0 unless refused */
     uint64_t word;    /* the word, 0 unless a word is answered */
 } sci_answer;
+
+/* What an erasure answers. */
+typedef struct {
+    uint32_t kind;        /* SCI_ERASED, SCI_CUT or SCI_NOT_ERASED, that is refused */
+    uint32_t refusal;     /* the refusal's number, 0 unless refused */
+    uint32_t short_pairs; /* pairs with fewer ones than the bound, 0 unless erased */
+    uint32_t first_short; /* erased: the first cell of the lowest short pair,
+                             numbered in the whole array, or SCI_NO_CELL if there
+                             is none; else 0 */
+    uint32_t burns;       /* burns carried out: all of them if erased; k + 1 if cut;
+                             1 if refused with 15, else 0 */
+} sci_erasure;
 
 /* What the mailbox answers. */
 typedef struct {
@@ -137,6 +165,50 @@ sci_answer sci_zeroize(const uint8_t *image, size_t image_bytes,
                        uint32_t cell);
 
 /*
+ * Erasure of the partition of this number. Burns, in this order, every fuse
+ * that is not marked stuck of the indicator, of each data word ascending, and
+ * of the digest; no other fuse changes. A short word does not stop it, but a
+ * short indicator does, with 15. Answers the short pairs that are left, those
+ * of digest and indicator included, the first cell of the lowest of them, and
+ * the number of burns, one for each word.
+ * Asked for again, after a cut too, it begins at the indicator. It answers as
+ * the first time, or as it would have if that one was cut, where no key is held
+ * either time, the image and the marks are the same, and since then no other
+ * call or writer has changed the cells: only this one, sci_erase_cut and FERS,
+ * each of this partition. The cache is only read.
+ * Refused: 1, 2; 7 if there is no such partition; 8 if it is not zeroizable;
+ * 10; 15.
+ */
+sci_erasure sci_erase(const uint8_t *image, size_t image_bytes,
+                      uint32_t *cells, size_t cell_count,
+                      const uint32_t *marks, size_t mark_count,
+                      const uint8_t kinds[SCI_PLACES], const uint64_t tags[SCI_PLACES],
+                      uint32_t partition);
+
+/*
+ * The erasure of sci_erase, cut by a power failure at burn k, counted from 0:
+ * the burns before it are whole, burn k has the mask in place of all ones (its
+ * low half for the first cell of a pair; its low 32 bits for a 32-bit word), and
+ * nothing follows. Then the cache is empty, all kinds and tags 0. Answers
+ * SCI_CUT and k + 1 burns.
+ * If the erasure would end before burn k, at the end of its order or with 15,
+ * it is sci_erase: the answer and the cells are the same, and the cache stays.
+ * A cut at k = 0 is never refused with 15.
+ * Refused: as sci_erase; the cache stays.
+ */
+sci_erasure sci_erase_cut(const uint8_t *image, size_t image_bytes,
+                          uint32_t *cells, size_t cell_count,
+                          const uint32_t *marks, size_t mark_count,
+                          uint8_t kinds[SCI_PLACES], uint64_t tags[SCI_PLACES],
+                          uint32_t partition, uint32_t k, uint64_t mask);
+
+/*
+ * A restart: empties the cache, all kinds and tags 0, and changes nothing else.
+ * It cannot be refused.
+ */
+void sci_restart(uint8_t kinds[SCI_PLACES], uint64_t tags[SCI_PLACES]);
+
+/*
  * A mailbox command. Fields are little-endian u32, but for the 64 MEK bytes.
  *
  *   code      request                                      response
@@ -146,6 +218,10 @@ sci_answer sci_zeroize(const uint8_t *image, size_t image_bytes,
  *             tag high, 64 MEK bytes: 84 bytes             16 bytes
  *   SCI_KUNL  chksum, reserved, cmd_timeout, tag low,      as CLKC
  *             tag high: 20 bytes                           12 bytes
+ *   SCI_FERS  chksum, reserved, partition                  ..., short pairs,
+ *             12 bytes                                     first short cell or
+ *                                                          SCI_NO_CELL
+ *                                                          20 bytes
  *   SCI_FSTA  chksum, reserved                             ..., active slot's
  *             8 bytes                                      partition or
  *                                                          0xFFFFFFFF, HEK
@@ -161,10 +237,13 @@ sci_answer sci_zeroize(const uint8_t *image, size_t image_bytes,
  * block has the MEK, the tag in the first 8 bytes of METD, and zeros.
  * KUNL frees the lowest place that holds the tag; the engine is to unload, and
  * the block is as for a load with the MEK zero.
+ * FERS is sci_erase of the partition that it names; the block and the cache are
+ * unchanged, and there is no order for the engine.
  * FSTA changes nothing but the response; there is no order for the engine.
  *
- * No command changes a cell. Response bytes past the response keep their values.
- * Refused: 1 to 6; KLOD also 11, 12, 13; KUNL also 14.
+ * No command but FERS changes a cell. Response bytes past the response keep
+ * their values.
+ * Refused: 1 to 6; FERS also 7, 8, 10, 15; KLOD also 11, 12, 13; KUNL also 14.
  */
 sci_reply sci_mailbox(const uint8_t *image, size_t image_bytes,
                       uint32_t *cells, size_t cell_count,

@@ -5,14 +5,28 @@ use mathlib.Core.List.{List}
 use Rattle.cache.specs.Cache.{Cache}
 use Rattle.direct.specs.declared.Answer.{Answer}
 use Rattle.direct.specs.Direct.{Outcome as Direct, left as leftBy}
+use Rattle.erasure.specs.declared.Answer.{Answer as Erasure}
+use Rattle.erasure.specs.Erasure.{CutOutcome, Outcome as Erased′, left as leftErased, leftAll}
 use Rattle.mailbox.specs.declared.Reply.{Reply}
 use Rattle.mailbox.specs.Mailbox.{Outcome, left}
 use Rattle.sciambrunola.specs.declared.SciAnswer.{SciAnswer}
+use Rattle.sciambrunola.specs.declared.SciErasure.{SciErasure}
 use Rattle.sciambrunola.specs.declared.SciReply.{SciReply}
-use Rattle.sciambrunola.specs.Numbers.{answerNumbers, replyNumbers, Told, Called}
+use Rattle.sciambrunola.specs.Numbers.{answerNumbers, erasureNumbers, replyNumbers, Told, ErasureTold, CutTold, Called}
 
 pub told : {a : Answer} {r : SciAnswer} {cells : List ℕ} {direct : Direct} → leftBy a cells ≡ direct → r ≡ answerNumbers a → Told r cells direct
 told e q = record { answer = q ∙ ap (λ (d : Direct). answerNumbers (d .answer)) e; cells-left = ap (λ (d : Direct). d .cells) e }
+
+pub erasure-told : {a : Erasure} {r : SciErasure} {cells : List ℕ} {erasure : Erased′} → leftErased a cells ≡ erasure → r ≡ erasureNumbers a → ErasureTold r cells erasure
+erasure-told e q = record { answer = q ∙ ap (λ (o : Erased′). erasureNumbers (o .answer)) e; cells-left = ap (λ (o : Erased′). o .cells) e }
+
+pub cut-told : {a : Erasure} {r : SciErasure} {cells : List ℕ} {cache : Cache} {cut : CutOutcome} → leftAll a cells cache ≡ cut → r ≡ erasureNumbers a → CutTold r cells cache cut
+cut-told e q =
+    record {
+      answer = q ∙ ap (λ (o : CutOutcome). erasureNumbers (o .answer)) e;
+      cells-left = ap (λ (o : CutOutcome). o .cells) e;
+      cache-left = ap (λ (o : CutOutcome). o .cache) e;
+    }
 
 pub called : {a : Reply} {r : SciReply} {cells response block : List ℕ} {cache : Cache} {call : Outcome} → left a cells cache response block ≡ call → r ≡ replyNumbers a → Called r cells cache response block call
 called e q =

@@ -8,10 +8,14 @@ use Rattle.engine.specs.declared.Order.the-variants.{Nothing, Clear, Load, Unlo
 use Rattle.direct.specs.declared.Answer.{Answer}
 use Rattle.direct.specs.declared.Answer.the-variants.{Word, Done, Withheld, Refused as RefusedAnswer}
 use Rattle.direct.specs.Direct.{Outcome as Direct}
+use Rattle.erasure.specs.declared.Answer.{Answer as Erasure}
+use Rattle.erasure.specs.declared.Answer.the-variants.{Erased, Cut, Refused as RefusedErasure}
+use Rattle.erasure.specs.Erasure.{CutOutcome, Outcome as Erased′}
 use Rattle.mailbox.specs.declared.Reply.{Reply}
 use Rattle.mailbox.specs.declared.Reply.the-variants.{Refused, Accepted}
 use Rattle.mailbox.specs.Mailbox.{Outcome}
 use Rattle.sciambrunola.specs.declared.SciAnswer.{SciAnswer}
+use Rattle.sciambrunola.specs.declared.SciErasure.{SciErasure}
 use Rattle.sciambrunola.specs.declared.SciReply.{SciReply}
 
 -- "the answer is a word, done, withheld, or refused with its number"
@@ -20,6 +24,13 @@ answerNumbers (Word word) = record { kind = 0; refusal = 0; word = word }
 answerNumbers Done = record { kind = 1; refusal = 0; word = 0 }
 answerNumbers Withheld = record { kind = 2; refusal = 0; word = 0 }
 answerNumbers (RefusedAnswer number) = record { kind = 3; refusal = number; word = 0 }
+
+-- "the number of short pairs .. and the first cell of the lowest one .. and the number of burns"; "it was cut and the burns carried out";
+-- refused, and "one burn is reported" for 15
+abbrev pub erasureNumbers : Erasure → SciErasure
+erasureNumbers (Erased short first burns) = record { kind = 0; refusal = 0; short = short; first = first; burns = burns }
+erasureNumbers (Cut burns) = record { kind = 1; refusal = 0; short = 0; first = 0; burns = burns }
+erasureNumbers (RefusedErasure number burns) = record { kind = 2; refusal = number; short = 0; first = 0; burns = burns }
 
 -- "none, or clear with the timeout, or load or unload with place and timeout"
 abbrev pub orderNumbers : (length : ℕ) → Order → SciReply
@@ -37,6 +48,17 @@ replyNumbers (Accepted length order) = orderNumbers length order
 pub record Told (r : SciAnswer) (cells : List ℕ) (direct : Direct) : Type 0 where
   pub answer : r ≡ answerNumbers (direct .answer)
   pub cells-left : cells ≡ direct .cells
+
+-- an erasure told its answer, and left the cells, as the definition has them
+pub record ErasureTold (r : SciErasure) (cells : List ℕ) (erasure : Erased′) : Type 0 where
+  pub answer : r ≡ erasureNumbers (erasure .answer)
+  pub cells-left : cells ≡ erasure .cells
+
+-- and so did a cut one, which may also empty the cache
+pub record CutTold (r : SciErasure) (cells : List ℕ) (cache : Cache) (cut : CutOutcome) : Type 0 where
+  pub answer : r ≡ erasureNumbers (cut .answer)
+  pub cells-left : cells ≡ cut .cells
+  pub cache-left : cache ≡ cut .cache
 
 -- a call told its reply, and left everything that it was lent, as the definition has it
 pub record Called (r : SciReply) (cells : List ℕ) (cache : Cache) (response block : List ℕ) (call : Outcome) : Type 0 where

@@ -1,16 +1,19 @@
-// What C and Rust call, in a static archive: the direct commands and the mailbox, their answers as
-// numbers, since an enum does not cross. Each function does what the entry point below it does, for
-// any bytes and any lengths, and asks nothing of its caller but what include/sciambrunola.h says of
-// pointers. The numbers of each case are in `specs/Numbers`. It rests on `direct` and `mailbox`.
+// What C and Rust call, in a static archive: the direct commands, the erasures, the restart and the
+// mailbox, their answers as numbers, since an enum does not cross. Each function does what the entry
+// point below it does, for any bytes and any lengths, and asks nothing of its caller but what
+// include/sciambrunola.h says of pointers. The numbers of each case are in `specs/Numbers`. It rests
+// on `direct`, `erasure` and `mailbox`.
 use direct::Answer;
 use direct::Command;
 use engine::Order;
+use erasure::Answer as Erasure;
 use mailbox::Reply;
 ghost use mathlib.Core.Path.{_≡_};
-ghost use Rattle.cache.specs.Cache.{cacheOf};
+ghost use Rattle.cache.specs.Cache.{cacheOf, empty};
+ghost use Rattle.erasure.specs.Erasure.{erasureOf, cutErasureOf};
 ghost use Rattle.direct.specs.Direct.{directOf};
 ghost use Rattle.mailbox.specs.Mailbox.{mailboxOf};
-ghost use Rattle.sciambrunola.specs.Numbers.{answerNumbers, orderNumbers, replyNumbers, Told, Called};
+ghost use Rattle.sciambrunola.specs.Numbers.{answerNumbers, erasureNumbers, orderNumbers, replyNumbers, Told, ErasureTold, CutTold, Called};
 
 // A direct command's answer. kind: 0 a word, 1 done, 2 withheld, 3 refused.
 #[repr(C)]
@@ -18,6 +21,16 @@ pub struct SciAnswer {
     pub kind: u32,
     pub refusal: u32,
     pub word: u64,
+}
+
+// An erasure's answer. kind: 0 erased, 1 cut, 2 refused.
+#[repr(C)]
+pub struct SciErasure {
+    pub kind: u32,
+    pub refusal: u32,
+    pub short: u32,
+    pub first: u32,
+    pub burns: u32,
 }
 
 // The mailbox's answer. order: 0 none, 1 clear, 2 load, 3 unload.
@@ -54,6 +67,39 @@ fn flat_answer(answer: Answer) -> SciAnswer
             kind: 3,
             refusal: number,
             word: 0,
+        },
+    }
+}
+
+// An erasure's answer as numbers.
+fn flat_erasure(answer: Erasure) -> SciErasure
+    ensures { λ r. ⌜ r ≡ erasureNumbers answer ⌝ }
+{
+    match answer {
+        Erasure::Erased {
+            short,
+            first,
+            burns,
+        } => SciErasure {
+            kind: 0,
+            refusal: 0,
+            short: short,
+            first: first,
+            burns: burns,
+        },
+        Erasure::Cut { burns } => SciErasure {
+            kind: 1,
+            refusal: 0,
+            short: 0,
+            first: 0,
+            burns: burns,
+        },
+        Erasure::Refused { number, burns } => SciErasure {
+            kind: 2,
+            refusal: number,
+            short: 0,
+            first: 0,
+            burns: burns,
         },
     }
 }
@@ -186,6 +232,46 @@ pub extern "C" fn sci_zeroize(
         tags,
         Command::Zeroize { cell: cell },
     )
+}
+
+// The erasure of a partition.
+#[no_mangle]
+pub extern "C" fn sci_erase(
+    image: &[u8],
+    cells: &mut [u32],
+    marks: &[u32],
+    kinds: &[u8; 16],
+    tags: &[u64; 16],
+    partition: u32,
+) -> SciErasure
+    ensures { λ r. ⌜ ErasureTold r (now (cells .exit)) (erasureOf (now (image .entry)) (now (cells .entry)) (now (marks .entry)) (cacheOf (now (kinds .entry)) (now (tags .entry))) partition) ⌝ }
+{
+    flat_erasure(erasure::erase(image, cells, marks, kinds, tags, partition))
+}
+
+// The erasure of a partition, cut by a power failure at burn `k`, of whose word the mask has burned.
+#[no_mangle]
+pub extern "C" fn sci_erase_cut(
+    image: &[u8],
+    cells: &mut [u32],
+    marks: &[u32],
+    kinds: &mut [u8; 16],
+    tags: &mut [u64; 16],
+    partition: u32,
+    k: u32,
+    mask: u64,
+) -> SciErasure
+    ensures { λ r. ⌜ CutTold r (now (cells .exit)) (cacheOf (now (kinds .exit)) (now (tags .exit))) (cutErasureOf (now (image .entry)) (now (cells .entry)) (now (marks .entry)) (cacheOf (now (kinds .entry)) (now (tags .entry))) partition k mask) ⌝ }
+{
+    flat_erasure(erasure::erase_cut(image, cells, marks, kinds, tags, partition, k, mask))
+}
+
+// A restart.
+#[no_mangle]
+pub extern "C" fn sci_restart(kinds: &mut [u8; 16], tags: &mut [u64; 16])
+    ensures { λ _. ⌜ cacheOf (now (kinds .exit)) (now (tags .exit)) ≡ empty ⌝ }
+{
+    erasure::restart(kinds, tags);
 }
 
 // A call of the mailbox.

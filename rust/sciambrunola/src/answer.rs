@@ -1,4 +1,5 @@
-//! What the key block answers (document 01, "Direct commands" and "Mailbox").
+//! What the key block answers (document 01, "Direct commands", "Erasing a
+//! partition" and "Mailbox").
 
 use crate::raw;
 
@@ -14,6 +15,34 @@ pub enum Answer {
     Withheld,
     /// Refused with this number; nothing has changed.
     Refused(u32),
+}
+
+/// What an erasure answers.
+#[derive(Clone, Copy, Debug, PartialEq, Eq)]
+pub enum Erasure {
+    /// Ran to its end: every fuse of the partition that is not stuck is set.
+    Erased {
+        /// The pairs with fewer ones than the map's bound. The partition's
+        /// state is erased if this is 0, else torn.
+        short_pairs: u32,
+        /// The first cell of the lowest of them, none if there is none.
+        first_short: Option<u32>,
+        /// The burns carried out, one for each word.
+        burns: u32,
+    },
+    /// The power failed, and the cache is empty. Erase again.
+    Cut {
+        /// The burns carried out, the one that was cut included.
+        burns: u32,
+    },
+    /// Refused; nothing has changed, unless the number is 15: then the fuses
+    /// of the indicator that are not stuck are set, and nothing else has changed.
+    Refused {
+        /// The refusal's number.
+        number: u32,
+        /// The burns carried out: 1 if the number is 15, else 0.
+        burns: u32,
+    },
 }
 
 /// What the encryption engine is to do.
@@ -45,7 +74,8 @@ pub enum Order {
 /// What the mailbox answers.
 #[derive(Clone, Copy, Debug, PartialEq, Eq)]
 pub enum Reply {
-    /// Refused with this number; nothing has changed.
+    /// Refused with this number; nothing has changed, unless the number is 15
+    /// (see [`Erasure::Refused`]).
     Refused(u32),
     /// Carried out.
     Accepted {
@@ -63,6 +93,18 @@ impl Answer {
             raw::DONE => Answer::Done,
             raw::WITHHELD => Answer::Withheld,
             _ => Answer::Refused(answer.refusal),
+        }
+    }
+}
+
+impl Erasure {
+    pub(crate) fn from_raw(erasure: raw::Erasure) -> Erasure {
+        let raw::Erasure { kind, refusal, short_pairs, first_short, burns } = erasure;
+        let first_short = (first_short != raw::NO_CELL).then_some(first_short);
+        match kind {
+            raw::ERASED => Erasure::Erased { short_pairs, first_short, burns },
+            raw::CUT => Erasure::Cut { burns },
+            _ => Erasure::Refused { number: refusal, burns },
         }
     }
 }

@@ -1,11 +1,11 @@
 //! The proved key block of a drive controller: direct commands on its fuses,
-//! the key cache of 16 places, and the mailbox.
+//! the erasure of a partition, the key cache of 16 places, and the mailbox.
 //!
 //! Every function answers for any bytes and any lengths, and a refusal changes
-//! nothing that is lent. The refusal numbers, the fields of the requests and
-//! the lengths are those of document 01; `include/sciambrunola.h` has them in
-//! short. The work itself is done by the proved archive; here are only the
-//! types that make its calls safe.
+//! nothing that is lent, save that 15 leaves the indicator burned. The refusal
+//! numbers, the fields of the requests and the lengths are those of document 01;
+//! `include/sciambrunola.h` has them in short. The work itself is done by the
+//! proved archive; here are only the types that make its calls safe.
 //!
 //! The archive is built for x86-64 Linux (System V calling convention),
 //! position-independent, with no heap, no C library and no undefined symbol, so
@@ -19,7 +19,7 @@ mod cache;
 #[allow(unsafe_code)]
 mod raw;
 
-pub use answer::{Answer, Order, Reply};
+pub use answer::{Answer, Erasure, Order, Reply};
 pub use cache::Cache;
 
 /// A direct command (document 01, "Direct commands"). Each names a word by its
@@ -64,11 +64,51 @@ pub fn direct(
     })
 }
 
+/// Erases the partition of this number: burns every fuse of it that is not
+/// stuck, the indicator first, then the data words ascending, then the digest.
+///
+/// A short word does not stop it; a short indicator does, with refusal 15, which
+/// leaves the indicator burned. Any other refusal changes nothing.
+pub fn erase(
+    image: &[u8],
+    cells: &mut [u32],
+    marks: &[u32],
+    cache: &Cache,
+    partition: u32,
+) -> Erasure {
+    Erasure::from_raw(raw::erase(raw::Drive { image, cells, marks }, cache, partition))
+}
+
+/// The same erasure where the power fails at burn `k`, counted from 0: that burn
+/// has `mask` in place of all ones, of which a 32-bit word takes the low 32
+/// bits, nothing follows, and the cache is emptied.
+///
+/// Where the erasure ends before burn `k`, or is refused, it is [`erase`], and
+/// the cache stays as it is.
+pub fn erase_cut(
+    image: &[u8],
+    cells: &mut [u32],
+    marks: &[u32],
+    cache: &mut Cache,
+    partition: u32,
+    k: u32,
+    mask: u64,
+) -> Erasure {
+    let drive = raw::Drive { image, cells, marks };
+    Erasure::from_raw(raw::erase_cut(drive, cache, partition, k, mask))
+}
+
+/// A restart: empties the cache, and changes nothing else.
+pub fn restart(cache: &mut Cache) {
+    raw::restart(cache);
+}
+
 /// Carries out the mailbox command that `code` names, with this request.
 ///
 /// An accepted command writes its response to the start of `response` and,
 /// where it has an order for the engine, the engine block to `block`. Nothing
-/// else changes but the cache, and nothing at all on refusal.
+/// else changes but the cache and, by FERS, which is [`erase`], the cells; and
+/// nothing at all on refusal, 15 excepted.
 #[allow(clippy::too_many_arguments)]
 pub fn mailbox(
     image: &[u8],

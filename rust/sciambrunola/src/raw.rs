@@ -11,6 +11,10 @@ pub(crate) const WORD: u32 = 0;
 pub(crate) const DONE: u32 = 1;
 pub(crate) const WITHHELD: u32 = 2;
 
+pub(crate) const ERASED: u32 = 0;
+pub(crate) const CUT: u32 = 1;
+pub(crate) const NO_CELL: u32 = 0xFFFF_FFFF;
+
 pub(crate) const CLEAR: u32 = 1;
 pub(crate) const LOAD: u32 = 2;
 pub(crate) const UNLOAD: u32 = 3;
@@ -23,6 +27,16 @@ pub(crate) struct Answer {
     pub(crate) word: u64,
 }
 
+/// `sci_erasure`
+#[repr(C)]
+pub(crate) struct Erasure {
+    pub(crate) kind: u32,
+    pub(crate) refusal: u32,
+    pub(crate) short_pairs: u32,
+    pub(crate) first_short: u32,
+    pub(crate) burns: u32,
+}
+
 /// `sci_reply`
 #[repr(C)]
 pub(crate) struct Reply {
@@ -33,7 +47,7 @@ pub(crate) struct Reply {
     pub(crate) timeout: u32,
 }
 
-/// What every function is lent.
+/// What every function but the restart is lent.
 pub(crate) struct Drive<'a> {
     pub(crate) image: &'a [u8],
     pub(crate) cells: &'a mut [u32],
@@ -84,6 +98,34 @@ extern "C" {
         tags: *const u64,
         cell: u32,
     ) -> Answer;
+
+    fn sci_erase(
+        image: *const u8,
+        image_bytes: usize,
+        cells: *mut u32,
+        cell_count: usize,
+        marks: *const u32,
+        mark_count: usize,
+        kinds: *const u8,
+        tags: *const u64,
+        partition: u32,
+    ) -> Erasure;
+
+    fn sci_erase_cut(
+        image: *const u8,
+        image_bytes: usize,
+        cells: *mut u32,
+        cell_count: usize,
+        marks: *const u32,
+        mark_count: usize,
+        kinds: *mut u8,
+        tags: *mut u64,
+        partition: u32,
+        k: u32,
+        mask: u64,
+    ) -> Erasure;
+
+    fn sci_restart(kinds: *mut u8, tags: *mut u64);
 
     fn sci_mailbox(
         image: *const u8,
@@ -136,6 +178,26 @@ pub(crate) fn write(drive: Drive, cache: &Cache, cell: u32, value: u64) -> Answe
 
 pub(crate) fn zeroize(drive: Drive, cache: &Cache, cell: u32) -> Answer {
     call!(sci_zeroize, drive, cache.kinds.as_ptr(), cache.tags.as_ptr(), cell)
+}
+
+pub(crate) fn erase(drive: Drive, cache: &Cache, partition: u32) -> Erasure {
+    call!(sci_erase, drive, cache.kinds.as_ptr(), cache.tags.as_ptr(), partition)
+}
+
+pub(crate) fn erase_cut(
+    drive: Drive,
+    cache: &mut Cache,
+    partition: u32,
+    k: u32,
+    mask: u64,
+) -> Erasure {
+    let (kinds, tags) = (cache.kinds.as_mut_ptr(), cache.tags.as_mut_ptr());
+    call!(sci_erase_cut, drive, kinds, tags, partition, k, mask)
+}
+
+pub(crate) fn restart(cache: &mut Cache) {
+    // SAFETY: both pointers are those of arrays of 16, borrowed mutably.
+    unsafe { sci_restart(cache.kinds.as_mut_ptr(), cache.tags.as_mut_ptr()) }
 }
 
 pub(crate) fn mailbox(drive: Drive, cache: &mut Cache, code: u32, buffers: Buffers) -> Reply {

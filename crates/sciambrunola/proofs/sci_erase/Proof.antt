@@ -1,0 +1,20 @@
+-- `sciambrunola::sci_erase` meets its contract: as `erasure::erase` does, its answer as numbers. Assumes nothing.
+use Rattle.sciambrunola.specs.Laws.{erasure-told}
+use borrow.Author.Needs.{needs}
+use Rattle.sciambrunola.proofs.sci_erase.Statement.{statement}
+use Rattle.sciambrunola.proofs.sci_erase.Tie as tie
+
+erase-requires : tie.Need-erase-requires
+erase-requires c κs = search needs
+
+flat-erasure-requires : tie.Need-flat-erasure-requires
+flat-erasure-requires c κs = search needs
+
+same-length : tie.Need-same-length
+same-length c = search needs
+
+returns : tie.Need-returns
+returns c = erasure-told (c .before .before .before .erase .ensures) (c .flat-erasure .ensures)
+
+pub sci-erase-spec : {M : Type 1} → statement M
+sci-erase-spec = tie.close (tie.spec erase-requires flat-erasure-requires same-length returns)
