@@ -1,12 +1,14 @@
 /*
  * Document 01, "The small drive", from C: case 1, a request that is refused,
- * direct commands, and a key that is held under a kind other than 1 behind an
- * empty place with the same tag. Every field of every answer is printed.
+ * direct commands, a key that is held under a kind other than 1 behind an empty
+ * place with the same tag, a restart, and the erasures of cases 2, 4, 5, 7 and
+ * 8. Every field of every answer is printed.
  */
 #include "sciambrunola.h"
 
 #include <inttypes.h>
 #include <stdio.h>
+#include <string.h>
 
 #define CELLS 12
 
@@ -16,7 +18,7 @@ static const uint8_t image[] = {
     6, 0, 6, 0, 1, 0, 0, 0    /* entry 1, software */
 };
 static uint32_t cells[CELLS] = {1};
-static const uint32_t marks[CELLS] = {0};
+static uint32_t marks[CELLS];
 static uint8_t kinds[SCI_PLACES];
 static uint64_t tags[SCI_PLACES];
 
@@ -24,6 +26,24 @@ static void print_answer(const char *name, sci_answer answer)
 {
     printf("%s: kind %" PRIu32 ", refusal %" PRIu32 ", word %" PRIu64 "\n", name,
            answer.kind, answer.refusal, answer.word);
+}
+
+static void print_erasure(const char *name, sci_erasure erasure)
+{
+    printf("%s: kind %" PRIu32 ", refusal %" PRIu32 ", short %" PRIu32 ", first %" PRIu32
+           ", burns %" PRIu32 "\n",
+           name, erasure.kind, erasure.refusal, erasure.short_pairs, erasure.first_short,
+           erasure.burns);
+}
+
+static void print_cells(void)
+{
+    size_t i;
+    printf("cells:");
+    for (i = 0; i < CELLS; i++) {
+        printf(" %" PRIX32, cells[i]);
+    }
+    printf("\n");
 }
 
 static void print_reply(const char *name, sci_reply reply)
@@ -55,10 +75,7 @@ static void ask_for_status(void)
 {
     const uint8_t request[] = {0xD2, 0xFE, 0xFF, 0xFF, 0, 0, 0, 0};
     uint8_t response[24];
-    size_t i;
-    for (i = 0; i < sizeof response; i++) {
-        response[i] = 0xA5;
-    }
+    memset(response, 0xA5, sizeof response);
     print_reply("FSTA", ask(SCI_FSTA, request, sizeof request, response, sizeof response));
     print_bytes("response buffer", response, sizeof response);
     print_reply("CLKC with FSTA's request",
@@ -67,7 +84,6 @@ static void ask_for_status(void)
 
 static void direct_commands(void)
 {
-    size_t i;
     print_answer("READ 0", sci_read(image, sizeof image, cells, CELLS, marks, CELLS, kinds, tags, 0));
     print_answer("WRITE 7",
                  sci_write(image, sizeof image, cells, CELLS, marks, CELLS, kinds, tags, 7, 0x89));
@@ -75,11 +91,7 @@ static void direct_commands(void)
                  sci_write(image, sizeof image, cells, CELLS, marks, CELLS, kinds, tags, 0, 5));
     print_answer("ZEROIZE 6",
                  sci_zeroize(image, sizeof image, cells, CELLS, marks, CELLS, kinds, tags, 6));
-    printf("cells:");
-    for (i = 0; i < CELLS; i++) {
-        printf(" %" PRIu32, cells[i]);
-    }
-    printf("\n");
+    print_cells();
 }
 
 static void unload_of_another_kind(void)
@@ -97,10 +109,81 @@ static void unload_of_another_kind(void)
     printf("place 2: kind %u, tag %" PRIu64 "\n", (unsigned)kinds[2], tags[2]);
 }
 
+/* A restart empties the places that are held, of whatever kind, and clears the
+ * tags that are not looked at. */
+static void restart(void)
+{
+    unsigned held = 0;
+    size_t i;
+    kinds[15] = 9;
+    sci_restart(kinds, tags);
+    for (i = 0; i < SCI_PLACES; i++) {
+        held += kinds[i] != 0 || tags[i] != 0;
+    }
+    printf("restart: places that are not zero %u\n", held);
+}
+
+/* The small drive as it was, with this mark on a cell. */
+static void begin_again(size_t cell, uint32_t mark)
+{
+    memset(cells, 0, sizeof cells);
+    memset(marks, 0, sizeof marks);
+    cells[0] = 1;
+    marks[cell] = mark;
+}
+
+static sci_erasure erase(uint32_t partition)
+{
+    return sci_erase(image, sizeof image, cells, CELLS, marks, CELLS, kinds, tags, partition);
+}
+
+static void erase_by_mailbox(void)
+{
+    const uint8_t request[] = {0xD0, 0xFE, 0xFF, 0xFF, 0, 0, 0, 0, 0, 0, 0, 0};
+    uint8_t response[24];
+    memset(response, 0xA5, sizeof response);
+    begin_again(0, 0);
+    print_reply("FERS 0", ask(SCI_FERS, request, sizeof request, response, sizeof response));
+    print_bytes("response buffer", response, sizeof response);
+    print_cells();
+}
+
+static void erase_with_stuck_fuses(void)
+{
+    begin_again(1, 0x1F);
+    print_erasure("erasure, mark 1F on cell 1", erase(0));
+    begin_again(5, 0x1F);
+    print_erasure("erasure, mark 1F on cell 5", erase(0));
+    print_cells();
+    begin_again(0, 0);
+    print_erasure("erasure of partition 1", erase(1));
+    print_erasure("erasure of partition 2", erase(2));
+    kinds[2] = 9;
+    print_erasure("erasure with a key held", erase(0));
+    sci_restart(kinds, tags);
+    print_cells();
+}
+
+static void erase_cut(void)
+{
+    begin_again(0, 0);
+    tags[7] = 5; /* place 7 is empty, so this is not looked at, but cleared */
+    print_erasure("erasure cut at 1", sci_erase_cut(image, sizeof image, cells, CELLS, marks, CELLS,
+                                                    kinds, tags, 0, 1, UINT32_C(0xFFFFFFFF)));
+    printf("place 7: kind %u, tag %" PRIu64 "\n", (unsigned)kinds[7], tags[7]);
+    print_cells();
+    print_erasure("erasure again", erase(0));
+    print_cells();
+}
+
 int main(void)
 {
     ask_for_status();
     direct_commands();
     unload_of_another_kind();
+    restart();
+    erase_by_mailbox();
+    erase_with_stuck_fuses();
+    erase_cut();
     return 0;
 }

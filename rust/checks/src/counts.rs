@@ -1,6 +1,6 @@
 //! How often each of many things was met.
 
-use std::collections::BTreeMap;
+use std::collections::{BTreeMap, BTreeSet};
 
 /// A count for each key that was added.
 pub struct Counts<K> {
@@ -30,8 +30,14 @@ impl<K: Ord> Counts<K> {
         self.counts.get(key).copied().unwrap_or(0)
     }
 
-    /// The keys met, in their order, with their counts.
-    pub fn met(&self) -> impl Iterator<Item = (&K, usize)> {
-        self.counts.iter().map(|(key, count)| (key, *count))
+    /// Those of the keys that were met less often than this.
+    pub fn scarce(&self, keys: impl IntoIterator<Item = K>, least: usize) -> Vec<K> {
+        keys.into_iter().filter(|key| self.of(key) < least).collect()
+    }
+
+    /// The keys met that are not among these.
+    pub fn besides(&self, keys: impl IntoIterator<Item = K>) -> Vec<&K> {
+        let keys: BTreeSet<K> = keys.into_iter().collect();
+        self.counts.keys().filter(|key| !keys.contains(key)).collect()
     }
 }

@@ -39,6 +39,20 @@ pub fn to_burn(random: &mut Random, image: Vec<u8>) -> Drive {
     drive
 }
 
+/// Makes cells or marks, or both, longer or shorter.
+pub fn damage_lengths(random: &mut Random, drive: &mut Drive) {
+    let any = random.below(drive.cells.len() + 1);
+    let (cells, marks) = (drive.cells.len(), drive.marks.len());
+    match random.below(6) {
+        0 => drive.cells.truncate(cells.saturating_sub(1)),
+        1 => drive.cells.push(0),
+        2 => drive.marks.truncate(marks.saturating_sub(1)),
+        3 => drive.marks.push(0),
+        4 => drive.cells.truncate(any),
+        _ => (drive.cells, drive.marks) = (vec![], vec![]),
+    }
+}
+
 /// A cell with few fuses set, if any.
 fn sparse(random: &mut Random) -> u32 {
     let few = random.cell() & random.cell() & random.cell();
@@ -97,12 +111,14 @@ fn fill(random: &mut Random, bound: usize, data: usize, cells: &mut [u32]) {
     }
 }
 
-/// Makes a pair hold this many ones, anywhere in it.
+/// Makes a pair hold this many ones, anywhere in it. Of ones and zeros the fewer
+/// are drawn: the last of many would take long to be found.
 fn set_ones(random: &mut Random, ones: usize, pair: &mut [u32]) {
-    let mut fuses: u64 = 0;
-    while (fuses.count_ones() as usize) < ones {
-        fuses |= 1 << random.below(64);
+    let mut drawn: u64 = 0;
+    while (drawn.count_ones() as usize) < ones.min(64 - ones) {
+        drawn |= 1 << random.below(64);
     }
+    let fuses = if ones > 32 { !drawn } else { drawn };
     pair[0] = fuses as u32;
     pair[1] = (fuses >> 32) as u32;
 }

@@ -4,13 +4,18 @@
 
 pub mod calls;
 pub mod compare;
+pub mod copy;
 pub mod cores;
 pub mod counts;
 pub mod drives;
+pub mod faults;
+pub mod histories;
 pub mod inputs;
+pub mod layout;
 pub mod maps;
 pub mod random;
 pub mod runner;
+pub mod sights;
 pub mod small;
 pub mod tally;
 pub mod tools;

@@ -37,6 +37,12 @@ pub fn small(random: &mut Random) -> Image {
     good_within(random, count, 64)
 }
 
+/// A map of any number of partitions, each of 16 cells at most.
+pub fn compact(random: &mut Random) -> Image {
+    let count = random.between(1, 16);
+    good_within(random, count, 16 * count)
+}
+
 /// A map of so many partitions that keeps every rule; each has room for ten
 /// cells or more in its share of the most cells.
 fn good_within(random: &mut Random, count: usize, most_cells: usize) -> Image {

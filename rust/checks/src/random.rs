@@ -45,6 +45,18 @@ impl Random {
         from[self.below(from.len())]
     }
 
+    /// The place of the part that a number below the sum of the parts falls into.
+    pub fn weighted(&mut self, parts: &[usize]) -> usize {
+        let mut left = self.below(parts.iter().sum());
+        for (place, part) in parts.iter().enumerate() {
+            if left < *part {
+                return place;
+            }
+            left -= part;
+        }
+        unreachable!("the number is below the sum of the parts")
+    }
+
     pub fn byte(&mut self) -> u8 {
         (self.bits() >> 56) as u8
     }

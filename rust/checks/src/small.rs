@@ -2,8 +2,14 @@
 //! key block is lent.
 
 use model::drive::Drive;
-use model::mailbox::request::Request;
-use sciambrunola::{direct, mailbox, Answer, Cache, Command, Reply};
+use model::mailbox::fields::Command as Mail;
+use model::mailbox::request::{Request, Values};
+use model::map::Map;
+use model::partition::Partition;
+use sciambrunola::{direct, erase, erase_cut, mailbox, Answer, Cache, Command, Erasure, Reply};
+
+/// The partition that is a slot; the other one is software.
+pub const SLOT: u32 = 0;
 
 /// The small drive with its cache, engine block and response buffer.
 pub struct Small {
@@ -19,12 +25,33 @@ impl Small {
         Small { drive: Drive::small(), cache, block: [0xB1; 128], response: [0xA5; 20] }
     }
 
-    /// Carries out a direct command. Inlined, as is the mailbox below, so that a
+    /// The drive with an empty cache and this mark on a cell.
+    pub fn marked(cell: usize, mark: u32) -> Small {
+        let mut small = Small::new(Cache::default());
+        small.drive.marks[cell] = mark;
+        small
+    }
+
+    /// Carries out a direct command. Inlined, as are the calls below, so that a
     /// measure of the stack begins at the key block's own call.
     #[inline(always)]
     pub fn direct(&mut self, command: Command) -> Answer {
         let Small { drive, cache, .. } = self;
         direct(&drive.image, &mut drive.cells, &drive.marks, cache, command)
+    }
+
+    /// Erases the slot.
+    #[inline(always)]
+    pub fn erase(&mut self) -> Erasure {
+        let Small { drive, cache, .. } = self;
+        erase(&drive.image, &mut drive.cells, &drive.marks, cache, SLOT)
+    }
+
+    /// Erases the slot, cut at burn `k`.
+    #[inline(always)]
+    pub fn erase_cut(&mut self, k: u32, mask: u64) -> Erasure {
+        let Small { drive, cache, .. } = self;
+        erase_cut(&drive.image, &mut drive.cells, &drive.marks, cache, SLOT, k, mask)
     }
 
     /// Carries out a mailbox command.
@@ -40,5 +67,38 @@ impl Small {
             &mut self.response,
             &mut self.block,
         )
+    }
+
+    /// The fuse cells as they stand.
+    pub fn cells(&self) -> &[u32] {
+        &self.drive.cells
+    }
+
+    /// A field of the response, counted from 0.
+    pub fn field(&self, number: usize) -> u32 {
+        let at = 4 * number;
+        let mut bytes = [0; 4];
+        bytes.copy_from_slice(&self.response[at..at + 4]);
+        u32::from_le_bytes(bytes)
+    }
+
+    /// What FSTA answers: the active slot's partition and whether the HEK is
+    /// available.
+    pub fn status(&mut self) -> (u32, u32) {
+        self.mailbox(&Request::of(Mail::Fsta, &Values::default()));
+        (self.field(3), self.field(4))
+    }
+
+    /// The map, for what the key block's calls do not tell.
+    pub fn map(&self) -> Map {
+        self.drive.map().expect("the small drive's map is good")
+    }
+
+    /// The slot's state and its short pairs, read from the cells by the model:
+    /// no call of the key block tells them.
+    pub fn state(&self) -> (String, usize) {
+        let map = self.map();
+        let slot = Partition::of(&map, SLOT as usize, &self.drive.cells);
+        (slot.state().to_string(), slot.short_pairs())
     }
 }

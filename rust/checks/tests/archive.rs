@@ -21,5 +21,14 @@ fn archive_has_no_undefined_symbol() {
 fn archive_defines_the_headers_functions_for_others_and_no_more() {
     let mut defined = symbols(&["-g", "--defined-only"]);
     defined.sort();
-    assert_eq!(defined, ["sci_mailbox", "sci_read", "sci_write", "sci_zeroize"]);
+    let header = [
+        "sci_erase",
+        "sci_erase_cut",
+        "sci_mailbox",
+        "sci_read",
+        "sci_restart",
+        "sci_write",
+        "sci_zeroize",
+    ];
+    assert_eq!(defined, header);
 }

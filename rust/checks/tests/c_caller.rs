@@ -14,10 +14,26 @@ READ 0: kind 3, refusal 8, word 0
 WRITE 7: kind 0, refusal 0, word 137
 WRITE 0: kind 1, refusal 0, word 0
 ZEROIZE 6: kind 3, refusal 8, word 0
-cells: 5 0 0 0 0 0 0 137 0 0 0 0
+cells: 5 0 0 0 0 0 0 89 0 0 0 0
 WRITE 0 with a key held: kind 3, refusal 10, word 0
 KUNL: refusal 0, length 12, order 3, place 2, timeout 6
 place 2: kind 0, tag 0
+restart: places that are not zero 0
+FERS 0: refusal 0, length 20, order 0, place 0, timeout 0
+response buffer: 04 FC FF FF 00 00 00 00 00 00 00 00 00 00 00 00 FF FF FF FF A5 A5 A5 A5
+cells: FFFFFFFF FFFFFFFF FFFFFFFF FFFFFFFF FFFFFFFF FFFFFFFF 0 0 0 0 0 0
+erasure, mark 1F on cell 1: kind 0, refusal 0, short 1, first 0, burns 3
+erasure, mark 1F on cell 5: kind 2, refusal 15, short 0, first 0, burns 1
+cells: 1 0 0 0 FFFFFFFF FFFFFFE0 0 0 0 0 0 0
+erasure of partition 1: kind 2, refusal 8, short 0, first 0, burns 0
+erasure of partition 2: kind 2, refusal 7, short 0, first 0, burns 0
+erasure with a key held: kind 2, refusal 10, short 0, first 0, burns 0
+cells: 1 0 0 0 0 0 0 0 0 0 0 0
+erasure cut at 1: kind 1, refusal 0, short 0, first 0, burns 2
+place 7: kind 0, tag 0
+cells: FFFFFFFF 0 0 0 FFFFFFFF FFFFFFFF 0 0 0 0 0 0
+erasure again: kind 0, refusal 0, short 0, first 4294967295, burns 3
+cells: FFFFFFFF FFFFFFFF FFFFFFFF FFFFFFFF FFFFFFFF FFFFFFFF 0 0 0 0 0 0
 ";
 
 fn compiled() -> PathBuf {

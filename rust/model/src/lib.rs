@@ -8,6 +8,7 @@
 pub mod cache;
 pub mod direct;
 pub mod drive;
+pub mod erasure;
 pub mod fuse;
 pub mod image;
 pub mod lent;
@@ -15,5 +16,6 @@ pub mod mailbox;
 pub mod map;
 pub mod partition;
 pub mod refusal;
+pub mod restart;
 pub mod slot;
 pub mod status;

@@ -10,6 +10,7 @@ pub use refusals::applying;
 
 use crate::cache::Cache;
 use crate::drive::Drive;
+use crate::erasure::{self, Erase};
 use crate::lent::Lent;
 use crate::{refusal, slot};
 use fields::{Command, Field};
@@ -60,10 +61,19 @@ pub enum Reply {
 pub fn mailbox(before: &Lent, request: &Request) -> (Reply, Lent) {
     let mut after = before.clone();
     let reply = match refusal::lowest(&applying(before, request)) {
-        Some(number) => Reply::Refused(number),
+        Some(number) => refuse(&mut after, request, number),
         None => carry_out(&mut after, request).expect("every field of the command is there"),
     };
     (reply, after)
+}
+
+/// "Refusal numbers": "Fuses, cache, block and response stay as they were, and
+/// the engine order is none", save what 15, which only FERS can get, leaves.
+fn refuse(lent: &mut Lent, request: &Request, number: u32) -> Reply {
+    if let Some(partition) = request.partition() {
+        erasure::burn_for_refusal(&mut lent.drive, partition, number);
+    }
+    Reply::Refused(number)
 }
 
 /// "Mailbox": a request to which no refusal applies; none is for a request
@@ -74,9 +84,10 @@ fn carry_out(lent: &mut Lent, request: &Request) -> Option<Reply> {
         Command::Clkc => clear(lent, request)?,
         Command::Klod => load(lent, request)?,
         Command::Kunl => unload(lent, request)?,
+        Command::Fers => erase(lent, request)?,
         Command::Fsta => Order::None,
     };
-    let response = response(command, &lent.drive, order);
+    let response = response(command, &lent.drive, order, request);
     // "Response bytes past the response keep their values."
     lent.response[..response.len()].copy_from_slice(&response);
     Some(Reply::Accepted { length: response.len(), order })
@@ -107,10 +118,19 @@ fn unload(lent: &mut Lent, request: &Request) -> Option<Order> {
     Some(Order::Unload { place: place as u32, timeout: request.timeout()? })
 }
 
+/// "Uncut and cut erasures, FERS among them, are one run".
+fn erase(lent: &mut Lent, request: &Request) -> Option<Order> {
+    erasure::carry_out(lent, Erase { partition: request.partition()?, cut: None })?;
+    Some(Order::None)
+}
+
 /// "Mailbox": the response's fields, each "little-endian u32", with the chksum.
-fn response(command: Command, drive: &Drive, order: Order) -> Vec<u8> {
+fn response(command: Command, drive: &Drive, order: Order, request: &Request) -> Vec<u8> {
+    let (short_pairs, first_short) = short_pairs(drive, request).unwrap_or((0, None));
     let field = |field: &Field| match (field, order) {
         (Field::Place, Order::Load { place, .. }) => place,
+        (Field::ShortPairs, _) => short_pairs,
+        (Field::FirstShortCell, _) => first_short.unwrap_or(0xFFFF_FFFF),
         (Field::ActiveSlot, _) => active_slot(drive).map_or(0xFFFF_FFFF, |number| number as u32),
         (Field::HekAvailable, _) => u32::from(hek_available(drive)),
         // fips_status and reserved are 0; the chksum is put in below.
@@ -121,6 +141,11 @@ fn response(command: Command, drive: &Drive, order: Order) -> Vec<u8> {
     let chksum = sum::response_chksum(&response);
     sum::put_chksum(&mut response, chksum);
     response
+}
+
+/// Of the partition that FERS names, as it now stands.
+fn short_pairs(drive: &Drive, request: &Request) -> Option<(u32, Option<u32>)> {
+    erasure::short_pairs(drive, request.partition()?)
 }
 
 fn active_slot(drive: &Drive) -> Option<usize> {

@@ -1,4 +1,4 @@
-//! Document 01, "Refusal numbers": the ones that the model gives so far.
+//! Document 01, "Refusal numbers": all fifteen.
 
 /// "Refusal numbers"
 #[derive(Clone, Copy, Debug, PartialEq, Eq)]
@@ -18,8 +18,8 @@ pub enum Refusal {
     /// "reserved not zero"
     ReservedNotZero,
     /// "no such partition, or the cell starts no word"
-    NoSuchWord,
-    /// "the command may not touch it"
+    NotThere,
+    /// "the command may not touch it (FERS: not zeroizable)"
     MayNotTouch,
     /// "WRITE would clear a fuse"
     WouldClear,
@@ -33,6 +33,8 @@ pub enum Refusal {
     NoEmptyPlace,
     /// "KUNL, tag not held"
     TagNotHeld,
+    /// "indicator short after its burn", the one that leaves something changed
+    IndicatorShort,
 }
 
 impl Refusal {
@@ -45,7 +47,7 @@ impl Refusal {
             Refusal::RequestLength => 4,
             Refusal::WrongChksum => 5,
             Refusal::ReservedNotZero => 6,
-            Refusal::NoSuchWord => 7,
+            Refusal::NotThere => 7,
             Refusal::MayNotTouch => 8,
             Refusal::WouldClear => 9,
             Refusal::KeysHeld => 10,
@@ -53,6 +55,7 @@ impl Refusal {
             Refusal::TagHeld => 12,
             Refusal::NoEmptyPlace => 13,
             Refusal::TagNotHeld => 14,
+            Refusal::IndicatorShort => 15,
         }
     }
 }

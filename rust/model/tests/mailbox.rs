@@ -1,18 +1,14 @@
 //! Document 01, "Mailbox", on the small drive: its cases 1, 9 and 10, with
-//! requests and responses written out byte by byte.
+//! requests and responses written out byte by byte. FERS stands with the erasure.
+
+mod small_lent;
 
 use model::cache::Cache;
-use model::drive::Drive;
 use model::lent::Lent;
 use model::mailbox::fields::{Command, Field};
 use model::mailbox::request::{Request, Values};
 use model::mailbox::{fields, mailbox, sum, Order, Reply};
-
-/// The small drive; block and response buffer hold bytes that no answer has.
-fn lent() -> Lent {
-    let (block, response) = (vec![0xB1; 128], vec![0xA5; 24]);
-    Lent { drive: Drive::small(), cache: Cache::default(), block, response }
-}
+use small_lent::lent;
 
 fn mek() -> [u8; 64] {
     let mut mek = [0; 64];
@@ -49,16 +45,16 @@ fn refused(lent: &Lent, request: &Request) -> u32 {
 #[test]
 fn codes_are_the_four_letters_of_the_names() {
     let codes = Command::ALL.map(|command| command.code().to_be_bytes());
-    assert_eq!(codes, [*b"CLKC", *b"KLOD", *b"KUNL", *b"FSTA"]);
-    assert_eq!(Command::ALL.map(Command::name), ["CLKC", "KLOD", "KUNL", "FSTA"]);
+    assert_eq!(codes, [*b"CLKC", *b"KLOD", *b"KUNL", *b"FERS", *b"FSTA"]);
+    assert_eq!(Command::ALL.map(Command::name), ["CLKC", "KLOD", "KUNL", "FERS", "FSTA"]);
 }
 
 #[test]
 fn lengths_follow_from_the_fields() {
     let requests = Command::ALL.map(|command| fields::length(command.request_fields()));
-    assert_eq!(requests, [12, 84, 20, 8]);
+    assert_eq!(requests, [12, 84, 20, 12, 8]);
     let responses = Command::ALL.map(|command| fields::length(command.response_fields()));
-    assert_eq!(responses, [12, 16, 12, 20]);
+    assert_eq!(responses, [12, 16, 12, 20, 20]);
     assert_eq!(fields::find(&[Field::Chksum], Field::Mek, &[0; 84]), None);
 }
 

@@ -5,7 +5,7 @@
 use model::cache::Cache;
 use model::drive::Drive;
 use model::lent::Lent;
-use model::mailbox::fields::{Command, FERS};
+use model::mailbox::fields::Command;
 use model::mailbox::request::{Request, Values};
 use model::mailbox::{applying, mailbox, sum, Reply};
 use model::refusal;
@@ -56,6 +56,34 @@ fn klod_is_refused_by_the_lowest_number_each_time_one_is_mended() {
 }
 
 #[test]
+fn fers_is_refused_by_the_lowest_number_each_time_one_is_mended() {
+    let mut lent = full_and_erased();
+    (lent.drive.cells[5], lent.drive.marks[5]) = (0, 0x1F);
+    let mut worst = request(Command::Fers, 0, 1);
+    worst.bytes[0] ^= 1;
+    worst.bytes.push(0);
+    lent.block.pop();
+    lent.drive.image[4] = 32;
+    assert_eq!(numbers(&lent, &worst), [1, 2, 4, 5, 6]);
+    lent.drive.image[4] = 60;
+    assert_eq!(numbers(&lent, &worst), [2, 4, 5, 6, 10, 15]);
+    lent.block.push(0);
+    assert_eq!(numbers(&lent, &worst), [4, 5, 6, 10, 15]);
+    worst.bytes.pop();
+    assert_eq!(numbers(&lent, &worst), [5, 6, 10, 15]);
+    worst.bytes[0] ^= 1;
+    assert_eq!(numbers(&lent, &worst), [6, 10, 15]);
+    assert_eq!(numbers(&lent, &request(Command::Fers, 0, 0)), [10, 15]);
+    let no_such = Values { partition: 2, reserved: 1, ..Values::default() };
+    assert_eq!(numbers(&lent, &Request::of(Command::Fers, &no_such)), [6, 7]);
+    let not_zeroizable = Values { partition: 1, reserved: 1, ..Values::default() };
+    assert_eq!(numbers(&lent, &Request::of(Command::Fers, &not_zeroizable)), [6, 8]);
+    // Too short to name a partition.
+    worst.bytes.truncate(11);
+    assert_eq!(numbers(&lent, &worst), [4, 6]);
+}
+
+#[test]
 fn kunl_of_a_tag_that_is_not_held_is_refused_last() {
     let mut lent = full_and_erased();
     lent.response.pop();
@@ -99,9 +127,9 @@ fn request_of_any_other_length_is_refused_with_4() {
 }
 
 #[test]
-fn unknown_codes_are_refused_with_3_fers_among_them() {
+fn unknown_codes_are_refused_with_3() {
     let lent = full_and_erased();
-    for code in [0, 1, FERS, 0x434B_4C43, 0x434C_4B42, u32::MAX] {
+    for code in [0, 1, 0x5352_4546, 0x4645_5252, 0x434B_4C43, 0x434C_4B42, u32::MAX] {
         for length in [0, 3, 4, 8, 12, 20, 84] {
             let mut request = Request { code, bytes: vec![0; length] };
             if length >= 4 {

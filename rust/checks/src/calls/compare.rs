@@ -49,7 +49,7 @@ impl fmt::Display for Difference {
 }
 
 /// The first thing in which a key block's answer or what it leaves is not the model's.
-fn difference(model: (Said, &Lent), block: (Said, &Lent)) -> Option<String> {
+pub fn difference(model: (Said, &Lent), block: (Said, &Lent)) -> Option<String> {
     let ((said, expected), (answered, after)) = (model, block);
     let answers = || format!("the answer: the model says {said:?}, the key block {answered:?}");
     let cells = || first_difference("cell", &expected.drive.cells, &after.drive.cells);

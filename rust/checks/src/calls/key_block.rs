@@ -1,7 +1,8 @@
 //! What is compared with the model, and the proved archive as one of them.
 
-use model::cache::PLACES;
+use model::cache::{Cache, PLACES};
 use model::direct::{Answer, Command};
+use model::erasure::{Cut, Erase, Erasure};
 use model::lent::Lent;
 use model::mailbox::request::Request;
 use model::mailbox::{Order, Reply};
@@ -10,7 +11,9 @@ use sciambrunola as proved;
 /// A key block: it answers, and changes what it is lent.
 pub trait KeyBlock: Sync {
     fn direct(&self, lent: &mut Lent, command: Command) -> Answer;
+    fn erase(&self, lent: &mut Lent, erase: Erase) -> Erasure;
     fn mailbox(&self, lent: &mut Lent, request: &Request) -> Reply;
+    fn restart(&self, lent: &mut Lent);
 }
 
 /// The proved key block, called through its safe Rust functions.
@@ -33,23 +36,31 @@ impl KeyBlock for Proved {
         }
     }
 
+    fn erase(&self, lent: &mut Lent, erase: Erase) -> Erasure {
+        let Lent { drive, cache, .. } = lent;
+        let (image, cells, marks) = (&drive.image, &mut drive.cells, &drive.marks);
+        let erasure = with_cache(cache, |cache| match erase.cut {
+            None => proved::erase(image, cells, marks, cache, erase.partition),
+            Some(Cut { k, mask }) => {
+                proved::erase_cut(image, cells, marks, cache, erase.partition, k, mask)
+            }
+        });
+        match erasure {
+            proved::Erasure::Erased { short_pairs, first_short, burns } => {
+                Erasure::Erased { short_pairs, first_short, burns }
+            }
+            proved::Erasure::Cut { burns } => Erasure::Cut { burns },
+            proved::Erasure::Refused { number, burns } => Erasure::Refused { number, burns },
+        }
+    }
+
     fn mailbox(&self, lent: &mut Lent, request: &Request) -> Reply {
-        let mut cache = proved::Cache::from_places(lent.cache.places);
-        let drive = &mut lent.drive;
-        let reply = proved::mailbox(
-            &drive.image,
-            &mut drive.cells,
-            &drive.marks,
-            &mut cache,
-            request.code,
-            &request.bytes,
-            &mut lent.response,
-            &mut lent.block,
-        );
-        lent.cache.places = places_of(&cache);
-        // Besides the places this compares what kinds and tags stand for them.
-        let right = proved::Cache::from_places(lent.cache.places);
-        assert_eq!(cache, right, "an empty place has kind 0 and tag 0, a held one 1: {request:X?}");
+        let Lent { drive, cache, block, response } = lent;
+        let (image, cells, marks) = (&drive.image, &mut drive.cells, &drive.marks);
+        let Request { code, bytes } = request;
+        let reply = with_cache(cache, |cache| {
+            proved::mailbox(image, cells, marks, cache, *code, bytes, response, block)
+        });
         match reply {
             proved::Reply::Refused(number) => Reply::Refused(number),
             proved::Reply::Accepted { length, order } => {
@@ -57,6 +68,21 @@ impl KeyBlock for Proved {
             }
         }
     }
+
+    fn restart(&self, lent: &mut Lent) {
+        with_cache(&mut lent.cache, proved::restart);
+    }
+}
+
+/// Makes a call with the cache as the archive has it, and takes it back.
+fn with_cache<T>(cache: &mut Cache, call: impl FnOnce(&mut proved::Cache) -> T) -> T {
+    let mut lent = proved::Cache::from_places(cache.places);
+    let said = call(&mut lent);
+    cache.places = places_of(&lent);
+    // Besides the places this compares what kinds and tags stand for them.
+    let right = proved::Cache::from_places(cache.places);
+    assert_eq!(lent, right, "an empty place has kind 0 and tag 0, a held one 1");
+    said
 }
 
 fn order_of(order: proved::Order) -> Order {

@@ -2,13 +2,12 @@
 //! with the calls that come one after the other.
 
 use super::call::Call;
-use super::{commands, requests};
+use super::{buffers, commands, erasures, requests};
 use crate::random::Random;
 use crate::{drives, maps};
 use model::cache::{Cache, PLACES};
 use model::drive::Drive;
 use model::lent::Lent;
-use model::mailbox::block::BLOCK_BYTES;
 use model::mailbox::fields::Command;
 
 const SEED: u64 = 0x5EED_0C11_0016_0128;
@@ -19,18 +18,50 @@ struct Mood {
     read: usize,
     write: usize,
     zeroize: usize,
+    erase: usize,
+    cut: usize,
+    restart: usize,
     clear: usize,
     load: usize,
     unload: usize,
+    erase_by_mailbox: usize,
     status: usize,
 }
 
-/// Many loads, which fill the cache, or many burns, or some of each.
-const MOODS: [Mood; 3] = [
-    Mood { read: 4, write: 8, zeroize: 6, clear: 1, load: 40, unload: 12, status: 5 },
-    Mood { read: 12, write: 40, zeroize: 16, clear: 4, load: 4, unload: 4, status: 8 },
-    Mood { read: 10, write: 20, zeroize: 12, clear: 4, load: 20, unload: 12, status: 8 },
-];
+/// Many loads, which fill the cache.
+const LOADS: Mood = Mood {
+    read: 4,
+    write: 8,
+    zeroize: 6,
+    erase: 1,
+    cut: 1,
+    restart: 1,
+    clear: 1,
+    load: 40,
+    unload: 12,
+    erase_by_mailbox: 1,
+    status: 5,
+};
+/// Many burns of single words.
+const BURNS: Mood =
+    Mood { read: 12, write: 40, zeroize: 16, clear: 4, load: 4, unload: 4, status: 8, ..LOADS };
+/// Some of each.
+const MIXED: Mood = Mood {
+    read: 10,
+    write: 20,
+    zeroize: 12,
+    erase: 2,
+    cut: 2,
+    restart: 2,
+    clear: 2,
+    load: 20,
+    erase_by_mailbox: 2,
+    status: 8,
+    ..LOADS
+};
+/// Many erasures, with loads between them.
+const ERASURES: Mood =
+    Mood { erase: 10, cut: 30, restart: 6, load: 10, unload: 4, erase_by_mailbox: 20, ..LOADS };
 
 /// A sequence of calls, made again by its number alone.
 pub struct Scene {
@@ -46,7 +77,7 @@ pub struct Scene {
 impl Scene {
     pub fn numbered(number: usize) -> Scene {
         let mut random = Random::numbered(SEED, number);
-        let mood = &MOODS[random.below(MOODS.len())];
+        let mood = random.pick(&[&LOADS, &BURNS, &MIXED, &ERASURES]);
         let tags = tags(&mut random);
         let cache = cache(&mut random, &tags);
         let drive = drive(&mut random);
@@ -79,45 +110,35 @@ impl Scene {
     }
 
     fn call(&mut self) -> Call {
-        let Mood { read, write, zeroize, clear, load, unload, status } = *self.mood;
-        let parts = [read, write, zeroize, clear, load, unload, status];
+        let Mood { read, write, zeroize, erase, cut, restart, .. } = *self.mood;
+        let Mood { clear, load, unload, erase_by_mailbox, status, .. } = *self.mood;
+        let by_mailbox = [clear, load, unload, erase_by_mailbox, status];
         let (random, drive) = (&mut self.random, &self.drive);
-        let command = match weighted(random, &parts) {
-            0 => return Call::Direct(commands::read(random, drive)),
-            1 => return Call::Direct(commands::write(random, drive)),
-            2 => return Call::Direct(commands::zeroize(random, drive)),
-            3 => Command::Clkc,
-            4 => Command::Klod,
-            5 => Command::Kunl,
-            _ => Command::Fsta,
-        };
-        Call::Mailbox(requests::generated(random, command, &self.tags))
+        let others = by_mailbox.iter().sum();
+        match random.weighted(&[read, write, zeroize, erase, cut, restart, others]) {
+            0 => Call::Direct(commands::read(random, drive)),
+            1 => Call::Direct(commands::write(random, drive)),
+            2 => Call::Direct(commands::zeroize(random, drive)),
+            3 => Call::Erase(erasures::uncut(random, drive)),
+            4 => Call::Erase(erasures::cut(random, drive)),
+            5 => Call::Restart,
+            _ => {
+                // The table of the document has the commands in this order.
+                let command = Command::ALL[random.weighted(&by_mailbox)];
+                let partition = erasures::partition(random, drive);
+                Call::Mailbox(requests::generated(random, command, &self.tags, partition))
+            }
+        }
     }
 
-    /// Block and response buffer hold anything, so that every byte that is
-    /// written, or should not have been, shows.
+    /// What a call is lent; only the mailbox has a block and a response buffer.
     fn lent(&mut self, call: &Call) -> Lent {
         let (block, response) = match call {
-            Call::Direct(_) => (vec![], vec![]),
-            Call::Mailbox(_) => {
-                let length = self.random.pick(&[20, 20, 20, 21, 24, 40]);
-                (self.random.bytes(BLOCK_BYTES), self.random.bytes(length))
-            }
+            Call::Mailbox(_) => buffers::of_right_lengths(&mut self.random),
+            _ => (vec![], vec![]),
         };
         Lent { drive: self.drive.clone(), cache: self.cache.clone(), block, response }
     }
-}
-
-/// The place of the part that a random number falls into.
-fn weighted(random: &mut Random, parts: &[usize]) -> usize {
-    let mut left = random.below(parts.iter().sum());
-    for (place, part) in parts.iter().enumerate() {
-        if left < *part {
-            return place;
-        }
-        left -= part;
-    }
-    unreachable!("the number is below the sum of the parts")
 }
 
 /// Tags that are easily taken for one another, an empty place's 0 among them.
@@ -162,7 +183,7 @@ fn drive(random: &mut Random) -> Drive {
     };
     let mut drive = drives::to_burn(random, image);
     if way == 2 {
-        damage_lengths(random, &mut drive);
+        drives::damage_lengths(random, &mut drive);
     }
     drive
 }
@@ -171,22 +192,8 @@ fn drive(random: &mut Random) -> Drive {
 fn damage(random: &mut Random, lent: &mut Lent) {
     match random.below(4) {
         0 if !lent.drive.image.is_empty() => maps::damage_bytes(random, &mut lent.drive.image),
-        1 => lent.block.resize(random.pick(&[0, 64, 127, 129, 256]), 0xBB),
-        2 => lent.response.resize(random.pick(&[0, 8, 12, 16, 19]), 0xAA),
-        _ => damage_lengths(random, &mut lent.drive),
-    }
-}
-
-/// Makes cells or marks, or both, longer or shorter.
-fn damage_lengths(random: &mut Random, drive: &mut Drive) {
-    let any = random.below(drive.cells.len() + 1);
-    let (cells, marks) = (drive.cells.len(), drive.marks.len());
-    match random.below(6) {
-        0 => drive.cells.truncate(cells.saturating_sub(1)),
-        1 => drive.cells.push(0),
-        2 => drive.marks.truncate(marks.saturating_sub(1)),
-        3 => drive.marks.push(0),
-        4 => drive.cells.truncate(any),
-        _ => (drive.cells, drive.marks) = (vec![], vec![]),
+        1 => buffers::damage_block(random, &mut lent.block),
+        2 => buffers::damage_response(random, &mut lent.response),
+        _ => drives::damage_lengths(random, &mut lent.drive),
     }
 }

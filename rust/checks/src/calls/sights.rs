@@ -1,9 +1,12 @@
 //! Things that are to happen in generated calls though no outcome names them.
 
+mod erasures;
+
 use super::call::{Call, Said};
 use model::direct::{Answer, Command};
 use model::fuse;
 use model::lent::Lent;
+use model::mailbox::fields;
 use model::mailbox::{Order, Reply};
 use model::map::{Map, Part, Size, Word, LIFE_CYCLE};
 use model::partition::Partition;
@@ -23,22 +26,35 @@ const NO_SLOT: &str = "FSTA without an active slot";
 const NO_HEK: &str = "FSTA with an active slot and no HEK";
 const HEK: &str = "FSTA with the HEK";
 
-/// All of them.
-pub const ALL: [&str; 14] = [
+/// All but those of erasures.
+const OTHERS: [&str; 14] = [
     SHOWN, WITHHELD, OPEN, STUCK, DIGEST, INDICATOR, CYCLE, COUNTED, WIDE, FREED, TAG_0, NO_SLOT,
     NO_HEK, HEK,
 ];
 
+/// All of them.
+pub fn all() -> impl Iterator<Item = &'static str> {
+    OTHERS.into_iter().chain(erasures::ALL)
+}
+
 /// What is to be seen in one call.
-pub fn of(call: &Call, said: Said, after: &Lent) -> Vec<&'static str> {
+pub fn of(call: &Call, before: &Lent, said: Said, after: &Lent) -> Vec<&'static str> {
     match (call, said) {
         (Call::Direct(command), Said::Answer(answer)) => {
             direct(*command, answer, after).into_iter().collect()
         }
+        (Call::Erase(erase), Said::Erasure(erasure)) => {
+            erasures::of(*erase, before, erasure, after)
+        }
+        (Call::Restart, _) => erasures::restart(before),
         (_, Said::Reply(Reply::Accepted { order: Order::Load { place, .. }, .. })) => {
             load(place as usize, after)
         }
-        (_, Said::Reply(Reply::Accepted { order: Order::None, .. })) => vec![status(after)],
+        (Call::Mailbox(request), Said::Reply(Reply::Accepted { .. }))
+            if request.command() == Some(fields::Command::Fsta) =>
+        {
+            vec![status(after)]
+        }
         _ => vec![],
     }
 }

@@ -5,32 +5,38 @@ use super::call::{Call, Said};
 use super::sights;
 use crate::counts::Counts;
 use model::direct::Answer;
+use model::erasure::Erasure;
 use model::lent::Lent;
 use model::mailbox::{Order, Reply};
 use std::fmt;
 
 /// What each command can come to when it is carried out, and its refusals.
-const OUTCOMES: [(&str, &[&str], &[u32]); 8] = [
+const OUTCOMES: [(&str, &[&str], &[u32]); 12] = [
     ("READ", &["word"], &[1, 2, 7, 8]),
     ("WRITE", &["word", "done"], &[1, 2, 7, 8, 9, 10]),
     ("ZEROIZE", &["word", "withheld"], &[1, 2, 7, 8, 10]),
+    ("erasure", &["erased"], &[1, 2, 7, 8, 10, 15]),
+    ("cut erasure", &["cut", "erased"], &[1, 2, 7, 8, 10, 15]),
+    ("restart", &["nothing"], &[]),
     ("CLKC", &["clear"], &[1, 2, 4, 5, 6]),
     ("KLOD", &["load"], &[1, 2, 4, 5, 6, 11, 12, 13]),
     ("KUNL", &["unload"], &[1, 2, 4, 5, 6, 14]),
+    ("FERS", &["none"], &[1, 2, 4, 5, 6, 7, 8, 10, 15]),
     ("FSTA", &["none"], &[1, 2, 4, 5, 6]),
     ("other", &[], &[1, 2, 3]),
 ];
 
 /// The refusals that can apply to one call together with a higher one.
-const PAIRS: [(u32, &[u32]); 10] = [
+const PAIRS: [(u32, &[u32]); 11] = [
     (1, &[2, 3, 4, 5, 6, 12, 13, 14]),
-    (2, &[3, 4, 5, 6, 7, 8, 9, 10, 11, 12, 13, 14]),
+    (2, &[3, 4, 5, 6, 7, 8, 9, 10, 11, 12, 13, 14, 15]),
     (3, &[5, 6]),
-    (4, &[5, 6, 11, 12, 13, 14]),
-    (5, &[6, 11, 12, 13, 14]),
-    (6, &[11, 12, 13, 14]),
+    (4, &[5, 6, 7, 8, 10, 11, 12, 13, 14, 15]),
+    (5, &[6, 7, 8, 10, 11, 12, 13, 14, 15]),
+    (6, &[7, 8, 10, 11, 12, 13, 14, 15]),
     (8, &[9, 10]),
     (9, &[10]),
+    (10, &[15]),
     (11, &[12, 13]),
     (12, &[13]),
 ];
@@ -53,7 +59,7 @@ impl CallTally {
                 self.counts.add(pair_key(low.number(), high.number()));
             }
         }
-        for sight in sights::of(call, said, after) {
+        for sight in sights::of(call, before, said, after) {
             self.counts.add(sight.to_string());
         }
     }
@@ -70,13 +76,12 @@ impl CallTally {
 
     /// What can happen, and happened less often than this.
     pub fn scarce(&self, least: usize) -> Vec<String> {
-        possible().into_iter().filter(|key| self.counts.of(key) < least).collect()
+        self.counts.scarce(possible(), least)
     }
 
     /// What happened though it cannot.
     pub fn impossible(&self) -> Vec<&String> {
-        let possible = possible();
-        self.counts.met().map(|(key, _)| key).filter(|key| !possible.contains(key)).collect()
+        self.counts.besides(possible())
     }
 }
 
@@ -100,7 +105,7 @@ fn possible() -> Vec<String> {
     for (low, higher) in PAIRS {
         keys.extend(higher.iter().map(|high| pair_key(low, *high)));
     }
-    keys.extend(sights::ALL.iter().map(|sight| sight.to_string()));
+    keys.extend(sights::all().map(str::to_string));
     keys
 }
 
@@ -122,6 +127,10 @@ fn outcome(said: Said) -> String {
         Said::Answer(Answer::Done) => "done".to_string(),
         Said::Answer(Answer::Withheld) => "withheld".to_string(),
         Said::Answer(Answer::Refused(number)) => refused(number),
+        Said::Erasure(Erasure::Erased { .. }) => "erased".to_string(),
+        Said::Erasure(Erasure::Cut { .. }) => "cut".to_string(),
+        Said::Erasure(Erasure::Refused { number, .. }) => refused(number),
+        Said::Nothing => "nothing".to_string(),
         Said::Reply(Reply::Refused(number)) => refused(number),
         Said::Reply(Reply::Accepted { order, .. }) => order_name(order).to_string(),
     }

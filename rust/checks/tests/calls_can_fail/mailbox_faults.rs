@@ -11,7 +11,7 @@ use model::partition::Partition;
 use model::refusal::Refusal;
 
 /// The faults and what is wrong with them.
-pub const ALL: [(&str, Mailbox); 18] = [
+pub const ALL: [(&str, Mailbox); 17] = [
     ("the code left out of the request's sum", request_sum_without_code),
     ("the code in the response's sum", response_sum_with_code),
     ("tag halves swapped in the block", tag_halves_swapped),
@@ -26,7 +26,6 @@ pub const ALL: [(&str, Mailbox); 18] = [
     ("reserved not looked at", reserved_not_looked_at),
     ("longer requests accepted", longer_request_accepted),
     ("a response buffer of 19 accepted", shorter_buffer_accepted),
-    ("response buffer cleared to its end", buffer_cleared),
     ("block cleared by FSTA", block_cleared_by_status),
     ("cache emptied by a refused CLKC", refused_clear_empties),
     ("timeout left out of the order", no_timeout),
@@ -51,7 +50,7 @@ fn with_request(lent: &mut Lent, request: &Request, change: impl Fn(&mut Request
 }
 
 /// The mailbox with what an accepted request leaves changed after.
-fn and_then(lent: &mut Lent, request: &Request, change: impl Fn(&mut Lent, Order)) -> Reply {
+pub fn and_then(lent: &mut Lent, request: &Request, change: impl Fn(&mut Lent, Order)) -> Reply {
     let reply = mailbox(lent, request);
     if let Reply::Accepted { order, .. } = reply {
         change(lent, order);
@@ -183,14 +182,6 @@ fn shorter_buffer_accepted(lent: &mut Lent, request: &Request) -> Reply {
     lent.response.resize(if right { 20 } else { length }, 0);
     let reply = mailbox(lent, request);
     lent.response.truncate(length);
-    reply
-}
-
-fn buffer_cleared(lent: &mut Lent, request: &Request) -> Reply {
-    let reply = mailbox(lent, request);
-    if let Reply::Accepted { length, .. } = reply {
-        lent.response[length..].fill(0);
-    }
     reply
 }
 

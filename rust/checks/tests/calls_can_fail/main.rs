@@ -2,12 +2,14 @@
 //! copy of the model, and something in every copy with a single fault.
 
 mod direct_faults;
+mod fers_faults;
 mod mailbox_faults;
 
-use checks::calls::{self, CallTally, KeyBlock};
+use checks::calls::{self, CallTally};
+use checks::copy::{direct, mailbox, Copy, FAULTLESS};
+use checks::faults::{self, Mailbox};
 use model::direct::{Answer, Command};
 use model::lent::Lent;
-use model::mailbox::request::Request;
 use model::mailbox::Reply;
 use model::refusal::Refusal;
 
@@ -15,37 +17,6 @@ use model::refusal::Refusal;
 const SEQUENCES: usize = 400;
 
 type Direct = fn(&mut Lent, Command) -> Answer;
-type Mailbox = fn(&mut Lent, &Request) -> Reply;
-
-/// A copy of the model, with faults or without.
-struct Copy {
-    direct: Direct,
-    mailbox: Mailbox,
-}
-
-impl KeyBlock for Copy {
-    fn direct(&self, lent: &mut Lent, command: Command) -> Answer {
-        (self.direct)(lent, command)
-    }
-
-    fn mailbox(&self, lent: &mut Lent, request: &Request) -> Reply {
-        (self.mailbox)(lent, request)
-    }
-}
-
-/// The direct commands without a fault.
-fn direct(lent: &mut Lent, command: Command) -> Answer {
-    let (answer, after) = model::direct::direct(lent, command);
-    *lent = after;
-    answer
-}
-
-/// The mailbox without a fault.
-fn mailbox(lent: &mut Lent, request: &Request) -> Reply {
-    let (reply, after) = model::mailbox::mailbox(lent, request);
-    *lent = after;
-    reply
-}
 
 /// The number that a call is refused with where one refusal is checked before a
 /// lower one, the lowest that applies; none where they do not both apply.
@@ -61,30 +32,47 @@ fn compare(copy: &Copy) -> Result<(), calls::Difference> {
 
 #[test]
 fn nothing_is_found_in_a_copy_without_a_fault() {
-    let found = compare(&Copy { direct, mailbox });
+    let found = compare(&FAULTLESS);
     assert!(found.is_ok(), "{found:?}");
 }
 
 #[test]
 fn every_fault_of_a_direct_command_is_found() {
     for (name, faulty) in direct_faults::ALL {
-        let found = compare(&Copy { direct: faulty, mailbox });
+        let found = compare(&Copy { direct: faulty, ..FAULTLESS });
         assert!(found.is_err(), "not found: {name}");
     }
 }
 
 #[test]
 fn every_fault_of_the_mailbox_is_found() {
-    for (name, faulty) in mailbox_faults::ALL {
-        let found = compare(&Copy { direct, mailbox: faulty });
+    let faults = mailbox_faults::ALL.into_iter().chain(fers_faults::ALL);
+    for (name, faulty) in faults.chain(faults::OF_RESPONSES) {
+        let found = compare(&Copy { mailbox: faulty, ..FAULTLESS });
         assert!(found.is_err(), "not found: {name}");
+    }
+}
+
+#[test]
+fn every_fault_of_the_erasure_is_found() {
+    for (name, faulty) in faults::of_histories().chain(faults::OF_CALLS) {
+        let found = compare(&Copy { erase: faulty, ..FAULTLESS });
+        assert!(found.is_err(), "not found: {name}");
+    }
+}
+
+#[test]
+fn faults_of_the_restart_are_found() {
+    let keys_kept: fn(&mut Lent) = |_| ();
+    for faulty in [keys_kept, faults::restart_clears] {
+        assert!(compare(&Copy { restart: faulty, ..FAULTLESS }).is_err());
     }
 }
 
 #[test]
 fn a_difference_names_the_sequence_the_call_and_what_differs() {
     let refuse: Mailbox = |_, _| Reply::Refused(99);
-    let found = compare(&Copy { direct, mailbox: refuse }).expect_err("it is found");
+    let found = compare(&Copy { mailbox: refuse, ..FAULTLESS }).expect_err("it is found");
     assert_eq!(found.sequence, 0);
     let text = found.to_string();
     assert!(text.starts_with(&format!("sequence 0, call {}: ", found.call)), "{text}");

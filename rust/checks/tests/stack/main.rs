@@ -8,7 +8,7 @@ use checks::small::Small;
 use model::mailbox::fields::Command;
 use model::mailbox::request::{Request, Values};
 use painted::depth;
-use sciambrunola::{Answer, Cache, Reply};
+use sciambrunola::{Answer, Cache, Erasure, Reply};
 use std::io::Write;
 
 /// The most that any command may use.
@@ -32,11 +32,25 @@ fn of_direct(command: sciambrunola::Command) -> usize {
     measured(None, true, accepted)
 }
 
-/// The stack of a mailbox command for tag 1 with one key held.
-fn of_mailbox(command: Command, held: u64, expected: bool) -> usize {
+/// The stack of an erasure of the slot, which is not refused.
+fn of_erasure(call: impl Fn(&mut Small) -> Erasure) -> usize {
+    measured(None, true, |small| !matches!(call(small), Erasure::Refused { .. }))
+}
+
+/// The stack of a restart with a key held; a restart always ends with none.
+fn of_restart() -> usize {
+    let emptied = |small: &mut Small| {
+        sciambrunola::restart(&mut small.cache);
+        small.cache == Cache::default()
+    };
+    measured(Some(1), true, emptied)
+}
+
+/// The stack of a mailbox command for tag 1 and partition 0, with this key held.
+fn of_mailbox(command: Command, held: impl Into<Option<u64>>, expected: bool) -> usize {
     let request = Request::of(command, &Values { tag: 1, ..Values::default() });
     let accepted = |small: &mut Small| matches!(small.mailbox(&request), Reply::Accepted { .. });
-    measured(Some(held), expected, accepted)
+    measured(held.into(), expected, accepted)
 }
 
 /// The stack of a call that is accepted or refused as expected.
@@ -54,11 +68,16 @@ fn every_command_uses_less_than_1_kib() {
         ("READ", of_direct(Read { cell: SOFTWARE_WORD })),
         ("WRITE", of_direct(Write { cell: SOFTWARE_WORD, value: 5 })),
         ("ZEROIZE", of_direct(Zeroize { cell: SLOT_WORD })),
+        ("erasure", of_erasure(Small::erase)),
+        ("cut erasure", of_erasure(|small| small.erase_cut(2, 1))),
+        ("restart", of_restart()),
         ("CLKC", of_mailbox(Command::Clkc, 1, true)),
         ("KLOD", of_mailbox(Command::Klod, 2, true)),
         ("KLOD refused", of_mailbox(Command::Klod, 1, false)),
         ("KUNL", of_mailbox(Command::Kunl, 1, true)),
         ("KUNL refused", of_mailbox(Command::Kunl, 2, false)),
+        ("FERS", of_mailbox(Command::Fers, None, true)),
+        ("FERS refused", of_mailbox(Command::Fers, 1, false)),
         ("FSTA", of_mailbox(Command::Fsta, 1, true)),
     ];
     let line: Vec<String> = used.iter().map(|(name, bytes)| format!("{name} {bytes}")).collect();

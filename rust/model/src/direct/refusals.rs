@@ -16,7 +16,7 @@ pub fn applying(lent: &Lent, command: Command) -> Vec<Refusal> {
     let mut tests = vec![
         (Refusal::BadMap, map.is_none()),
         (Refusal::WrongLength, lent.drive.lengths_are_wrong()),
-        (Refusal::NoSuchWord, map.is_some() && word.is_none()),
+        (Refusal::NotThere, map.is_some() && word.is_none()),
     ];
     if let (Some(map), Some(word)) = (map, word) {
         let named = Named { lent, entry: map.entries()[word.partition], map, word, command };

@@ -1,14 +1,11 @@
 //! Document 01, "Mailbox": the table of its commands.
 
 use Field::{
-    ActiveSlot, Chksum, CmdTimeout, FipsStatus, HekAvailable, Mek, Place, Reserved, TagHigh, TagLow,
+    ActiveSlot, Chksum, CmdTimeout, FipsStatus, FirstShortCell, HekAvailable, Mek, Partition,
+    Place, Reserved, ShortPairs, TagHigh, TagLow,
 };
 
-/// "FERS (ours)": the erasure's code. It is unknown until the erasure is part of
-/// the library.
-pub const FERS: u32 = 0x4645_5253;
-
-/// "Mailbox": a row of the table, of those whose code is known.
+/// "Mailbox": a row of the table.
 #[derive(Clone, Copy, Debug, PartialEq, Eq)]
 pub enum Command {
     /// "CLKC (003)"
@@ -17,6 +14,8 @@ pub enum Command {
     Klod,
     /// "KUNL (ours)"
     Kunl,
+    /// "FERS (ours)"
+    Fers,
     /// "FSTA (ours)"
     Fsta,
 }
@@ -40,6 +39,12 @@ pub enum Field {
     Mek,
     /// "place"
     Place,
+    /// "partition"
+    Partition,
+    /// "short pairs"
+    ShortPairs,
+    /// "first short cell"
+    FirstShortCell,
     /// "active slot's partition or 0xFFFFFFFF"
     ActiveSlot,
     /// "HEK available 1 or 0"
@@ -47,8 +52,9 @@ pub enum Field {
 }
 
 impl Command {
-    /// "Mailbox": the rows of the table whose code is known.
-    pub const ALL: [Command; 4] = [Command::Clkc, Command::Klod, Command::Kunl, Command::Fsta];
+    /// "Mailbox": the rows of the table.
+    pub const ALL: [Command; 5] =
+        [Command::Clkc, Command::Klod, Command::Kunl, Command::Fers, Command::Fsta];
 
     /// "Mailbox": the first column.
     pub fn name(self) -> &'static str {
@@ -56,6 +62,7 @@ impl Command {
             Command::Clkc => "CLKC",
             Command::Klod => "KLOD",
             Command::Kunl => "KUNL",
+            Command::Fers => "FERS",
             Command::Fsta => "FSTA",
         }
     }
@@ -66,6 +73,7 @@ impl Command {
             Command::Clkc => 0x434C_4B43,
             Command::Klod => 0x4B4C_4F44,
             Command::Kunl => 0x4B55_4E4C,
+            Command::Fers => 0x4645_5253,
             Command::Fsta => 0x4653_5441,
         }
     }
@@ -82,6 +90,7 @@ impl Command {
             Command::Clkc => &[Chksum, Reserved, CmdTimeout],
             Command::Klod => &[Chksum, Reserved, CmdTimeout, TagLow, TagHigh, Mek],
             Command::Kunl => &[Chksum, Reserved, CmdTimeout, TagLow, TagHigh],
+            Command::Fers => &[Chksum, Reserved, Partition],
             Command::Fsta => &[Chksum, Reserved],
         }
     }
@@ -93,6 +102,7 @@ impl Command {
             Command::Clkc => &[Chksum, FipsStatus, Reserved],
             Command::Klod => &[Chksum, FipsStatus, Reserved, Place],
             Command::Kunl => &[Chksum, FipsStatus, Reserved],
+            Command::Fers => &[Chksum, FipsStatus, Reserved, ShortPairs, FirstShortCell],
             Command::Fsta => &[Chksum, FipsStatus, Reserved, ActiveSlot, HekAvailable],
         }
     }

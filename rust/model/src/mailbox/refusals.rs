@@ -3,6 +3,7 @@
 use super::block::BLOCK_BYTES;
 use super::fields::{self, Command};
 use super::request::Request;
+use crate::erasure::{self, Erase};
 use crate::lent::Lent;
 use crate::refusal::{self, Refusal};
 use crate::slot;
@@ -16,19 +17,27 @@ const LEAST_RESPONSE: usize = 20;
 /// looked for without a good map and C cells.
 pub fn applying(lent: &Lent, request: &Request) -> Vec<Refusal> {
     let command = request.command();
-    let tests = [
+    let any = [
         (Refusal::BadMap, lent.drive.map().is_none()),
         (Refusal::WrongLength, lengths_are_wrong(lent)),
         (Refusal::UnknownCode, command.is_none()),
         (Refusal::RequestLength, not_its_length(request)),
         (Refusal::WrongChksum, differs(request.chksum(), request.right_chksum())),
         (Refusal::ReservedNotZero, differs(request.reserved(), 0)),
+    ];
+    let keys = [
         (Refusal::HekNotAvailable, command == Some(Command::Klod) && hek_is_missing(lent)),
         (Refusal::TagHeld, command == Some(Command::Klod) && holds(lent, request, true)),
         (Refusal::NoEmptyPlace, command == Some(Command::Klod) && is_full(lent)),
         (Refusal::TagNotHeld, command == Some(Command::Kunl) && holds(lent, request, false)),
     ];
-    refusal::that_apply(tests)
+    refusal::that_apply(any.into_iter().chain(erasure_tests(lent, request)).chain(keys))
+}
+
+/// The tests of the erasure that FERS asks for; none if it names no partition.
+fn erasure_tests(lent: &Lent, request: &Request) -> Vec<(Refusal, bool)> {
+    let erase = |partition| Erase { partition, cut: None };
+    request.partition().map_or(vec![], |partition| erasure::partition_tests(lent, erase(partition)))
 }
 
 /// "cells or marks not C long; for the mailbox also block not 128 or response

@@ -24,12 +24,14 @@ pub struct Values {
     pub tag: u64,
     /// "64 MEK bytes"
     pub mek: [u8; 64],
+    /// "partition"
+    pub partition: u32,
 }
 
 /// A request in which everything is zero.
 impl Default for Values {
     fn default() -> Values {
-        Values { reserved: 0, timeout: 0, tag: 0, mek: [0; 64] }
+        Values { reserved: 0, timeout: 0, tag: 0, mek: [0; 64], partition: 0 }
     }
 }
 
@@ -42,6 +44,7 @@ impl Request {
             Field::TagLow => values.tag.to_le_bytes()[..4].to_vec(),
             Field::TagHigh => values.tag.to_le_bytes()[4..].to_vec(),
             Field::Mek => values.mek.to_vec(),
+            Field::Partition => values.partition.to_le_bytes().to_vec(),
             _ => vec![0; 4],
         };
         let bytes = command.request_fields().iter().flat_map(field).collect();
@@ -87,6 +90,11 @@ impl Request {
     /// "64 MEK bytes", if the command has them and the request reaches so far.
     pub fn mek(&self) -> Option<&[u8]> {
         fields::find(self.command()?.request_fields(), Field::Mek, &self.bytes)
+    }
+
+    /// "partition", if the command has it and the request reaches so far.
+    pub fn partition(&self) -> Option<u32> {
+        self.u32_field(Field::Partition)
     }
 
     fn u32_field(&self, field: Field) -> Option<u32> {

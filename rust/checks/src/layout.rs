@@ -1,0 +1,78 @@
+//! A partition as its map lays it out, and what its cells count for.
+//!
+//! Of the model only the map is used, its rules and its fields, and nothing that
+//! burns or counts: what is found with a layout is found whatever the model says
+//! of fuses.
+
+use model::drive::Drive;
+use model::map::{Map, SOFTWARE};
+use std::iter;
+use std::ops::Range;
+
+/// Where a partition's words lie, and the bound.
+#[derive(Clone)]
+pub struct Layout {
+    /// Its cells in the whole array; the indicator is the last two.
+    pub range: Range<usize>,
+    pub zeroizable: bool,
+    /// Cells of a data word.
+    word_cells: usize,
+    bound: u32,
+}
+
+impl Layout {
+    /// None with "a bad map, cells or marks not C long, or no such partition".
+    pub fn of(drive: &Drive, partition: u32) -> Option<Layout> {
+        let map = Map::read(&drive.image)?;
+        let entry = map.entries().get(partition as usize)?;
+        let layout = Layout {
+            range: entry.range(),
+            zeroizable: entry.zeroizable(),
+            word_cells: if entry.kind == SOFTWARE { 1 } else { 2 },
+            bound: map.bound() as u32,
+        };
+        ([drive.cells.len(), drive.marks.len()] == [map.cells(); 2]).then_some(layout)
+    }
+
+    /// The cells of the indicator.
+    pub fn indicator(&self) -> Range<usize> {
+        self.range.end - 2..self.range.end
+    }
+
+    /// "Order of burns": "indicator, data words ascending, digest", each word by
+    /// its cells. No word at all in a partition that is not zeroizable.
+    pub fn order(&self) -> Vec<Range<usize>> {
+        if !self.zeroizable {
+            return vec![];
+        }
+        let indicator = self.indicator();
+        let digest = indicator.start - 2..indicator.start;
+        let firsts = (self.range.start..digest.start).step_by(self.word_cells);
+        let data = firsts.map(|first| first..first + self.word_cells);
+        iter::once(indicator).chain(data).chain(iter::once(digest)).collect()
+    }
+
+    /// By how many ones the indicator passes the bound.
+    pub fn past_bound(&self, cells: &[u32]) -> i64 {
+        i64::from(ones(&cells[self.indicator()])) - i64::from(self.bound)
+    }
+
+    /// "when it is zeroizable and its indicator is not short"
+    pub fn counted(&self, cells: &[u32]) -> bool {
+        self.zeroizable && self.past_bound(cells) >= 0
+    }
+
+    /// Whether some pair has fewer ones than the bound.
+    pub fn some_short(&self, cells: &[u32]) -> bool {
+        cells[self.range.clone()].chunks_exact(2).any(|pair| ones(pair) < self.bound)
+    }
+
+    /// "counted as zeroized, some pair short"
+    pub fn torn(&self, cells: &[u32]) -> bool {
+        self.counted(cells) && self.some_short(cells)
+    }
+}
+
+fn ones(cells: &[u32]) -> u32 {
+    cells.iter().map(|cell| cell.count_ones()).sum()
+}

@@ -1,0 +1,62 @@
+//! Document 01, "The small drive": every cut of the slot's erasure, at every
+//! burn and past the last one, with every single fuse and every number of low
+//! fuses burned, on the drives of cases 2 to 5. What follows a cut is played as
+//! a history, so that every clause of demand 3 is checked, and every call is
+//! compared with the model.
+
+use checks::calls::erasures::low_bits;
+use checks::calls::{requests, Call};
+use checks::histories::{all_hold, Attempt, History};
+use checks::small::SLOT;
+use model::drive::Drive;
+use model::erasure::{Cut, Erase};
+
+/// The marked cell and its mark: none, then cases 3, 4 and 5.
+const STUCK: [(usize, u32); 4] = [(0, 0), (1, 0x0F), (1, 0x1F), (5, 0x1F)];
+
+/// The slot's erasure has burns 0 to 2.
+const KS: [u32; 8] = [0, 1, 2, 3, 4, 256, 0x1_0000, u32::MAX];
+
+fn masks() -> impl Iterator<Item = u64> {
+    (0..64).map(|fuse| 1 << fuse).chain((0..=64).map(low_bits))
+}
+
+fn erase(cut: Option<Cut>) -> Attempt {
+    Attempt::without_buffers(Call::Erase(Erase { partition: SLOT, cut }))
+}
+
+fn fers() -> Attempt {
+    Attempt::fers(requests::fers(SLOT), (vec![0xB1; 128], vec![0xA5; 24]))
+}
+
+/// What is asked for after, or before, this cut.
+fn lists(cut: Cut) -> Vec<Vec<Attempt>> {
+    let restart = || Attempt::without_buffers(Call::Restart);
+    let cut = || erase(Some(cut));
+    vec![
+        vec![cut(), erase(None), cut()],
+        vec![cut(), restart(), fers(), fers()],
+        vec![cut(), cut(), erase(Some(Cut { k: 0, mask: 0 })), fers(), erase(None)],
+        vec![erase(None), cut(), restart(), erase(None)],
+    ]
+}
+
+fn histories() -> Vec<History> {
+    let mut histories = Vec::new();
+    for (cell, mark) in STUCK {
+        for cut in KS.into_iter().flat_map(|k| masks().map(move |mask| Cut { k, mask })) {
+            let mut start = Drive::small();
+            start.marks[cell] = mark;
+            let of = |attempts| History { start: start.clone(), partition: SLOT, attempts };
+            histories.extend(lists(cut).into_iter().map(of));
+        }
+    }
+    histories
+}
+
+#[test]
+fn every_cut_of_the_small_drive_keeps_demand_3_and_is_the_models() {
+    let histories = histories();
+    assert_eq!(histories.len(), 4 * 8 * 129 * 4);
+    all_hold(histories.len(), |number| histories[number].clone());
+}
