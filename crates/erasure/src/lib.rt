@@ -15,7 +15,7 @@ ghost use Rattle.map.specs.Map.{headerOf};
 ghost use Rattle.burns.specs.Run.{tallyOf, ranAs};
 ghost use Rattle.drive.specs.Drive.{Whole};
 ghost use Rattle.cache.specs.Cache.{cacheOf, empty};
-ghost use Rattle.erasure.specs.Erasure.{partitionTests, Erasable, runOn, firstShort, answerBy, isCut, cacheAfter, left, leftBy, leftAll, uncutOf, eraseOf, erasureOf, cutErasureOf};
+ghost use Rattle.erasure.specs.Erasure.{partitionTests, Erasable, runOn, firstShort, answerBy, isCut, left, leftBy, leftAll, uncutOf, eraseOf, erasureOf, cutErasureOf};
 
 // What an erasure answers: its short pairs, the first cell of the lowest one (0xFFFFFFFF if none) and
 // the burns carried out; or that it was cut, and the burns carried out; or the refusal's number, and
