@@ -5,18 +5,19 @@ use mathlib.Core.Logic.{⊎-elim}
 use mathlib.Core.Bool.{false≢true, Bool, true, false, cond, _&&_, not}
 use mathlib.Core.List.{List, _∷_, _++_}
 use native.Mathlib.Omega.{arith}
-use lib.ListN.{length, take, drop}
+use lib.ListN.{length, take, drop, length-take}
 use lib.Dec.{eqb, ltb}
 use borrow.Author.Tests.{ltb-true, ltb-false, eqb-true, lt-ltb, le-ltb}
 use Rattle.laws.specs.Tests.{and, decided}
-use Rattle.laws.specs.Below.{First, first-tells, first-same}
+use Rattle.laws.specs.Below.{First, first-tells, first-same, count-le}
 use Rattle.laws.specs.Refusals.{lowest}
 use Rattle.map.specs.declared.Header.{Header}
 use Rattle.map.specs.declared.Entry.{Entry}
 use Rattle.map.specs.Map.{headerOf, entryOf, zeroizable, slot, mapGood}
+use Rattle.map.specs.Laws.{map-header, map-entry}
 use Rattle.partition.specs.declared.State.{State}
 use Rattle.partition.specs.declared.Survey.{Survey}
-use Rattle.partition.specs.Partition.{counted, surveyOf}
+use Rattle.partition.specs.Partition.{pairs, shortAt, counted, surveyOf}
 use Rattle.partition.specs.declared.State.the-variants.{Erased, Torn, Blank, Programmed}
 use Rattle.cache.specs.Cache.{Cache, hasPlace}
 use Rattle.cache.specs.declared.Sought.the-variants.{Held}
@@ -105,6 +106,17 @@ module _ (image cells : List ℕ) (i : ℕ) (header : Header) (x : Entry) (part 
   pub counted-here : (r : Bool) → r ≡ counted may (header .bound) part → r ≡ countedAt image cells i
   unfolding countedAt
   counted-here r q = cc
+
+-- a partition has at most 1,024 pairs, short or not
+pub short-most : (image cells : List ℕ) → mapGood image ≡ true → (i : ℕ) → i < headerOf image .partitions → surveyAt image cells i .short ≤ 1024
+unfolding surveyAt
+short-most image cells g i l =
+    let h = map-header image g in
+    let x = map-entry image g i l in
+    let part = cellsOf image cells i in
+    let long : length part ≤ entryOf image i .n = simp length-take (omega arith) in
+    let short = count-le (shortAt (headerOf image .bound) part) (pairs part) in
+    omega arith
 
 -- ---- a slot's answer
 

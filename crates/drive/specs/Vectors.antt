@@ -17,16 +17,16 @@ use Rattle.drive.specs.declared.ActiveSlot.the-variants.{Programmed, Bla
 use Rattle.drive.specs.declared.SlotAnswer.the-variants.{Refused}
 use Rattle.drive.specs.declared.Surveyed.the-variants.{Refused as NotSurveyed}
 
-abbrev erased : List ℕ
+abbrev pub erased : List ℕ
 erased = replicate 6 0xFFFF_FFFF
 
-abbrev torn : List ℕ
+abbrev pub torn : List ℕ
 torn = 0xFFFF_FFE0 ∷ replicate 5 0xFFFF_FFFF
 
-abbrev blank : List ℕ
+abbrev pub blank : List ℕ
 blank = replicate 6 0
 
-abbrev programmed : List ℕ
+abbrev pub programmed : List ℕ
 programmed = 1 ∷ replicate 5 0
 
 abbrev twoSlots : (first second : List ℕ) → ActiveSlot

@@ -8,7 +8,8 @@ use mathlib.Core.Bool.{Bool, true, false, cond, _&&_, false≢true}
 use native.Mathlib.Omega.{arith}
 use native.Mathlib.Numerals.{add-one}
 use native.Mathlib.Nat.{not-suc-le-zero, eq-or-lt-of-le, le-of-suc-le-suc, sub-zero}
-use lib.ListN.{length, length-append}
+use lib.ListN.{length, drop, set, getD, length-append}
+use lib.Seq.{drop-cons, set-at, append-snoc}
 use lib.Dec.{ltb}
 use borrow.Author.Tests.{ltb-true, ltb-false}
 use Rattle.laws.specs.Tests.{and, not-yes}
@@ -181,3 +182,9 @@ pub join-ones : (f : ℕ → ℕ) (n : ℕ) → length (joinBelow (λ i. f i ∷
 unfolding joinBelow
 join-ones f zero = refl
 join-ones f (suc n) = simp length-append (omega (arith, join-ones f n))
+
+-- an array whose first k places hold them, and whose others hold what they held: one more is stored
+pub store-next : (f : ℕ → ℕ) (k v : ℕ) (before after : List ℕ) → k < length before → v ≡ f k → after ≡ joinBelow (λ i. f i ∷ []) k ++ drop k before
+    → set after k v ≡ joinBelow (λ i. f i ∷ []) (k + 1) ++ drop (k + 1) before
+store-next f k v before after l e h =
+    rw (h, drop-cons before k 0 l, set-at (joinBelow (λ i. f i ∷ []) k) (getD before k 0) (drop (suc k) before) v k (join-ones f k), e, join-step, add-one, append-snoc)

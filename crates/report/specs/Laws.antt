@@ -5,21 +5,19 @@ use mathlib.Core.Path.{_≡_, refl, ap, _∙_}
 use mathlib.Core.Bool.{Bool, true, false, cond, not}
 use mathlib.Core.List.{List, _++_}
 use native.Mathlib.Omega.{arith}
-use native.Mathlib.Numerals.{add-one}
 use native.Mathlib.Nat.{zero-add}
-use lib.ListN.{length, take, drop, getD, set, length-take}
-use lib.Seq.{take-at, drop-cons, set-at, append-snoc}
+use lib.ListN.{length, take, drop, set}
+use lib.Seq.{take-at}
 use lib.Dec.{eqb, ltb}
 use borrow.Author.Tests.{lt-ltb, le-ltb, eq-eqb, ne-eqb, ltb-false, eqb-true, not-false}
-use Rattle.laws.specs.Below.{joinBelow, join-step, join-ones, count-le}
+use Rattle.laws.specs.Below.{joinBelow, join-ones, store-next}
 use Rattle.endian.specs.Endian.{u32At}
 use Rattle.map.specs.declared.Header.{Header}
 use Rattle.map.specs.declared.Entry.{Entry}
 use Rattle.map.specs.Laws.{map-header, map-entry}
 use Rattle.partition.specs.declared.Survey.{Survey}
-use Rattle.partition.specs.Partition.{pairs, shortAt}
 use Rattle.drive.specs.declared.ActiveSlot.{ActiveSlot}
-use Rattle.drive.specs.Laws.{available-tells}
+use Rattle.drive.specs.Laws.{available-tells, short-most}
 use Rattle.drive.specs.Drive.{cellsOf, surveyAt, activeSlot, slotNumber, available}
 use Rattle.map.specs.Map.{headerOf, entryOf, mapGood}
 use Rattle.text.specs.Text.{text, decimal}
@@ -86,9 +84,7 @@ numbers-long input from k = join-ones (λ i. u32At input (from + 4 * i)) k
 pub stored : (input : List ℕ) (from k v : ℕ) (start cells : List ℕ) → k < length start → v ≡ u32At input (from + 4 * k) → cells ≡ joinBelow (numberAt input from) k ++ drop k start
     → set cells k v ≡ joinBelow (numberAt input from) (k + 1) ++ drop (k + 1) start
 unfolding numberAt
-stored input from k v start cells l e c =
-    let f = joinBelow (numberAt input from) k in
-    rw (c, drop-cons start k 0 l, set-at f (getD start k 0) (drop (suc k) start) v k (numbers-long input from k), e, join-step, add-one, append-snoc)
+stored input from k v start cells l e c = store-next (λ i. u32At input (from + 4 * i)) k v start cells l e c
 
 -- ---- the table
 
@@ -166,14 +162,10 @@ printed-by input before after r t e p =
 -- ---- every number of the table is below 10,000, so that its decimal reads back (`text`, `decimal-reads`)
 
 pub small-numbers : (image cells : List ℕ) → mapGood image ≡ true → (i : ℕ) → i < headerOf image .partitions → (i < 10000) × (entryOf image i .n < 10000) × (surveyAt image cells i .short < 10000)
-unfolding surveyAt
 small-numbers image cells g i l =
     let h = map-header image g in
     let x = map-entry image g i l in
-    let part = cellsOf image cells i in
-    let long : length part ≤ entryOf image i .n = simp length-take (omega arith) in
-    let short = count-le (shortAt (headerOf image .bound) part) (pairs part) in
-    (omega arith, omega arith, omega arith)
+    (omega arith, omega arith, omega (arith, short-most image cells g i l))
 
 pub small-slot : (image cells : List ℕ) → mapGood image ≡ true → available (activeSlot image cells) ≡ true → slotNumber (activeSlot image cells) < 10000
 small-slot image cells g e =

@@ -3,16 +3,27 @@ use Prim.Native.Nat.{ℕ}
 use mathlib.Core.Path.{_≡_, ap, _∙_}
 use mathlib.Core.List.{List}
 use Rattle.cache.specs.Cache.{Cache}
+use Rattle.states.specs.declared.Listing.{Listing}
+use Rattle.states.specs.States.{Outcome as Listing′, left as leftListing}
 use Rattle.direct.specs.declared.Answer.{Answer}
 use Rattle.direct.specs.Direct.{Outcome as Direct, left as leftBy}
 use Rattle.erasure.specs.declared.Answer.{Answer as Erasure}
 use Rattle.erasure.specs.Erasure.{CutOutcome, Outcome as Erased′, left as leftErased, leftAll}
 use Rattle.mailbox.specs.declared.Reply.{Reply}
 use Rattle.mailbox.specs.Mailbox.{Outcome, left}
+use Rattle.sciambrunola.specs.declared.SciListing.{SciListing}
 use Rattle.sciambrunola.specs.declared.SciAnswer.{SciAnswer}
 use Rattle.sciambrunola.specs.declared.SciErasure.{SciErasure}
 use Rattle.sciambrunola.specs.declared.SciReply.{SciReply}
-use Rattle.sciambrunola.specs.Numbers.{answerNumbers, erasureNumbers, replyNumbers, Told, ErasureTold, CutTold, Called}
+use Rattle.sciambrunola.specs.Numbers.{listingNumbers, answerNumbers, erasureNumbers, replyNumbers, ListingTold, Told, ErasureTold, CutTold, Called}
+
+pub listing-told : {a : Listing} {r : SciListing} {states shorts : List ℕ} {listing : Listing′} → leftListing a states shorts ≡ listing → r ≡ listingNumbers a → ListingTold r states shorts listing
+listing-told e q =
+    record {
+      answer = q ∙ ap (λ (o : Listing′). listingNumbers (o .answer)) e;
+      states-left = ap (λ (o : Listing′). o .states) e;
+      shorts-left = ap (λ (o : Listing′). o .shorts) e;
+    }
 
 pub told : {a : Answer} {r : SciAnswer} {cells : List ℕ} {direct : Direct} → leftBy a cells ≡ direct → r ≡ answerNumbers a → Told r cells direct
 told e q = record { answer = q ∙ ap (λ (d : Direct). answerNumbers (d .answer)) e; cells-left = ap (λ (d : Direct). d .cells) e }

@@ -1,10 +1,15 @@
--- The answers as numbers, for C: each case of an answer, a reply and an engine order. Assumes nothing.
+-- The answers as numbers, for C: each case of a partition's fields, a listing, an answer, a reply and an engine order. Assumes nothing.
 use Prim.Native.Nat.{ℕ}
 use mathlib.Core.Path.{_≡_}
 use mathlib.Core.List.{List}
 use Rattle.cache.specs.Cache.{Cache}
 use Rattle.engine.specs.declared.Order.{Order}
 use Rattle.engine.specs.declared.Order.the-variants.{Nothing, Clear, Load, Unload}
+use Rattle.reader.specs.declared.Fields.{Fields}
+use Rattle.reader.specs.declared.Fields.the-variants.{Partition, Refused as NoFields}
+use Rattle.states.specs.declared.Listing.{Listing}
+use Rattle.states.specs.declared.Listing.the-variants.{Listed, Refused as NotListed}
+use Rattle.states.specs.States.{Outcome as Listing′}
 use Rattle.direct.specs.declared.Answer.{Answer}
 use Rattle.direct.specs.declared.Answer.the-variants.{Word, Done, Withheld, Refused as RefusedAnswer}
 use Rattle.direct.specs.Direct.{Outcome as Direct}
@@ -14,9 +19,21 @@ use Rattle.erasure.specs.Erasure.{CutOutcome, Outcome as Erased′}
 use Rattle.mailbox.specs.declared.Reply.{Reply}
 use Rattle.mailbox.specs.declared.Reply.the-variants.{Refused, Accepted}
 use Rattle.mailbox.specs.Mailbox.{Outcome}
+use Rattle.sciambrunola.specs.declared.SciFields.{SciFields}
+use Rattle.sciambrunola.specs.declared.SciListing.{SciListing}
 use Rattle.sciambrunola.specs.declared.SciAnswer.{SciAnswer}
 use Rattle.sciambrunola.specs.declared.SciErasure.{SciErasure}
 use Rattle.sciambrunola.specs.declared.SciReply.{SciReply}
+
+-- the header's P, C and B, then the entry's "first cell", "cells n", kind and flags
+abbrev pub fieldsNumbers : Fields → SciFields
+fieldsNumbers (Partition header entry) = record { refusal = 0; partitions = header .partitions; cells = header .cells; bound = header .bound; first = entry .first; length = entry .n; kind = entry .kind; flags = entry .flags }
+fieldsNumbers (NoFields number) = record { refusal = number; partitions = 0; cells = 0; bound = 0; first = 0; length = 0; kind = 0; flags = 0 }
+
+-- how many partitions were listed
+abbrev pub listingNumbers : Listing → SciListing
+listingNumbers (Listed partitions) = record { refusal = 0; partitions = partitions }
+listingNumbers (NotListed number) = record { refusal = number; partitions = 0 }
 
 -- "the answer is a word, done, withheld, or refused with its number"
 abbrev pub answerNumbers : Answer → SciAnswer
@@ -43,6 +60,12 @@ orderNumbers length (Unload place timeout) = record { refusal = 0; length = leng
 abbrev pub replyNumbers : Reply → SciReply
 replyNumbers (Refused number) = record { refusal = number; length = 0; order = 0; place = 0; timeout = 0 }
 replyNumbers (Accepted length order) = orderNumbers length order
+
+-- a listing told its answer, and left both arrays, as the definition has them
+pub record ListingTold (r : SciListing) (states shorts : List ℕ) (listing : Listing′) : Type 0 where
+  pub answer : r ≡ listingNumbers (listing .answer)
+  pub states-left : states ≡ listing .states
+  pub shorts-left : shorts ≡ listing .shorts
 
 -- a direct command told its answer, and left the cells, as the definition has them
 pub record Told (r : SciAnswer) (cells : List ℕ) (direct : Direct) : Type 0 where

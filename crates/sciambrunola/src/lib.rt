@@ -1,19 +1,43 @@
-// What C and Rust call, in a static archive: the direct commands, the erasures, the restart and the
-// mailbox, their answers as numbers, since an enum does not cross. Each function does what the entry
-// point below it does, for any bytes and any lengths, and asks nothing of its caller but what
-// include/sciambrunola.h says of pointers. The numbers of each case are in `specs/Numbers`. It rests
-// on `direct`, `erasure` and `mailbox`.
+// What C and Rust call, in a static archive: a map's fields, the states, the direct commands, the
+// erasures, the restart and the mailbox, their answers as numbers, since an enum does not cross. Each
+// function does what the entry point below it does, for any bytes and any lengths, and asks nothing
+// of its caller but what include/sciambrunola.h says of pointers. The numbers of each case are in
+// `specs/Numbers`. It rests on `reader`, `states`, `direct`, `erasure` and `mailbox`.
 use direct::Answer;
 use direct::Command;
 use engine::Order;
 use erasure::Answer as Erasure;
 use mailbox::Reply;
+use reader::Fields;
+use states::Listing;
 ghost use mathlib.Core.Path.{_≡_};
 ghost use Rattle.cache.specs.Cache.{cacheOf, empty};
+ghost use Rattle.reader.specs.Reader.{fieldsOf};
+ghost use Rattle.states.specs.States.{listingOf};
 ghost use Rattle.erasure.specs.Erasure.{erasureOf, cutErasureOf};
 ghost use Rattle.direct.specs.Direct.{directOf};
 ghost use Rattle.mailbox.specs.Mailbox.{mailboxOf};
-ghost use Rattle.sciambrunola.specs.Numbers.{answerNumbers, erasureNumbers, orderNumbers, replyNumbers, Told, ErasureTold, CutTold, Called};
+ghost use Rattle.sciambrunola.specs.Numbers.{fieldsNumbers, listingNumbers, answerNumbers, erasureNumbers, orderNumbers, replyNumbers, ListingTold, Told, ErasureTold, CutTold, Called};
+
+// What a map says of a partition, with its header. refusal: 0 where it is told.
+#[repr(C)]
+pub struct SciFields {
+    pub refusal: u32,
+    pub partitions: u32,
+    pub cells: u32,
+    pub bound: u32,
+    pub first: u32,
+    pub length: u32,
+    pub kind: u32,
+    pub flags: u32,
+}
+
+// How many partitions were listed. refusal: 0 where they were.
+#[repr(C)]
+pub struct SciListing {
+    pub refusal: u32,
+    pub partitions: u32,
+}
 
 // A direct command's answer. kind: 0 a word, 1 done, 2 withheld, 3 refused.
 #[repr(C)]
@@ -41,6 +65,50 @@ pub struct SciReply {
     pub order: u32,
     pub place: u32,
     pub timeout: u32,
+}
+
+// A partition's fields as numbers.
+fn flat_fields(fields: Fields) -> SciFields
+    ensures { λ r. ⌜ r ≡ fieldsNumbers fields ⌝ }
+{
+    match fields {
+        Fields::Refused(number) => SciFields {
+            refusal: number,
+            partitions: 0,
+            cells: 0,
+            bound: 0,
+            first: 0,
+            length: 0,
+            kind: 0,
+            flags: 0,
+        },
+        Fields::Partition { header, entry } => SciFields {
+            refusal: 0,
+            partitions: header.partitions as u32,
+            cells: header.cells as u32,
+            bound: header.bound as u32,
+            first: entry.first as u32,
+            length: entry.n as u32,
+            kind: entry.kind as u32,
+            flags: entry.flags as u32,
+        },
+    }
+}
+
+// A listing's answer as numbers.
+fn flat_listing(listing: Listing) -> SciListing
+    ensures { λ r. ⌜ r ≡ listingNumbers listing ⌝ }
+{
+    match listing {
+        Listing::Listed(partitions) => SciListing {
+            refusal: 0,
+            partitions: partitions,
+        },
+        Listing::Refused(number) => SciListing {
+            refusal: number,
+            partitions: 0,
+        },
+    }
 }
 
 // An answer as numbers.
@@ -168,6 +236,28 @@ fn run_flat(
     ensures { λ r. ⌜ Told r (now (cells .exit)) (directOf (now (image .entry)) (now (cells .entry)) (now (marks .entry)) (cacheOf (now (kinds .entry)) (now (tags .entry))) command) ⌝ }
 {
     flat_answer(direct::run(image, cells, marks, kinds, tags, command))
+}
+
+// The fields of a partition.
+#[no_mangle]
+pub extern "C" fn sci_partition(image: &[u8], partition: u32) -> SciFields
+    ensures { λ r. ⌜ r ≡ fieldsNumbers (fieldsOf (now (image .entry)) partition) ⌝ }
+{
+    flat_fields(reader::partition_fields(image, partition))
+}
+
+// The state and the short pairs of each partition.
+#[no_mangle]
+pub extern "C" fn sci_states(
+    image: &[u8],
+    cells: &[u32],
+    marks: &[u32],
+    states: &mut [u32; 16],
+    shorts: &mut [u32; 16],
+) -> SciListing
+    ensures { λ r. ⌜ ListingTold r (now (states .exit)) (now (shorts .exit)) (listingOf (now (image .entry)) (now (cells .entry)) (now (marks .entry)) (now (states .entry)) (now (shorts .entry))) ⌝ }
+{
+    flat_listing(states::list_states(image, cells, marks, states, shorts))
 }
 
 // READ of the word that starts at `cell`.

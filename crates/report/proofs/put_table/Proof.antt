@@ -43,8 +43,8 @@ loop-holds : tie.Need-loop-holds Inv-loop μ-loop
 unfolding joinBelow
 loop-holds c = (omega arith, omega arith, nothing _ _ (omega arith))
 
-read-entry-requires : tie.Need-read-entry-requires Inv-loop μ-loop
-read-entry-requires c κs = search needs
+entry-of-requires : tie.Need-entry-of-requires Inv-loop μ-loop
+entry-of-requires c κs = search needs
 
 survey-at-requires : tie.Need-survey-at-requires Inv-loop μ-loop
 survey-at-requires c κs =
@@ -69,7 +69,7 @@ loop-again c =
     let line = c .before .before in
     let x = line .before .before .before in
     let top = x .before .before in
-    let lines = then (top .loop .inv .2) (retext (line-is _ _ _ _ _ (x .read-entry .ensures) (line .before .before .survey-at .ensures)) (line .put-line .ensures .0)) in
+    let lines = then (top .loop .inv .2) (retext (line-is _ _ _ _ _ (x .entry-of .ensures) (line .before .before .survey-at .ensures)) (line .put-line .ensures .0)) in
     (omega arith, omega (arith, line .put-line .ensures .1), retext (sym (join-step _ _)) lines)
 
 active-in-requires : tie.Need-active-in-requires Inv-loop μ-loop
@@ -104,7 +104,7 @@ put-table-spec =
     slice-aggregate-put
     put-requires
     loop-holds
-    read-entry-requires
+    entry-of-requires
     survey-at-requires
     put-line-requires
     add-i
