@@ -1,27 +1,33 @@
 /*
- * The proved key block of a drive controller: direct commands on its fuses,
- * the erasure of a partition, the key cache of 16 places, and the mailbox. Link
- * libsciambrunola.a: it is built for x86-64 Linux (System V calling
- * convention), position-independent, with no heap, no C library and no
- * undefined symbol.
+ * The proved key block of a drive controller: the map of its fuses, the states
+ * of its partitions, direct commands on its fuses, the erasure of a partition,
+ * the key cache of 16 places, and the mailbox. Link libsciambrunola.a: it is
+ * built for x86-64 Linux (System V calling convention), position-independent,
+ * with no heap, no C library and no undefined symbol.
  *
  * Any bytes, cells, marks, requests and lengths get an answer, and every call
  * ends. What the caller must see to, and all of it:
  *   - every pointer is valid for its count (and not null, even for a count of
- *     0); a count is in elements of the pointer's type;
- *   - kinds and tags are arrays of SCI_PLACES elements;
+ *     0) and aligned for its type; a count is in elements of that type;
+ *   - kinds and tags are arrays of SCI_PLACES elements, states and short_pairs
+ *     arrays of SCI_PARTITIONS;
  *   - a buffer that a call may write, that is one whose pointer is not const
- *     (cells; for sci_erase_cut, sci_restart and sci_mailbox also kinds and
- *     tags; for sci_mailbox also response and block), overlaps no other buffer
- *     of the call. Buffers that are const may overlap.
+ *     (cells, but for sci_states; for sci_erase_cut, sci_restart and
+ *     sci_mailbox also kinds and tags; for sci_mailbox also response and block;
+ *     for sci_states states and short_pairs), overlaps no other buffer of the
+ *     call. Buffers that are const may overlap.
+ * Nothing is kept between calls: all that a call knows is what it is lent.
  *
- * What is lent to every function, save that sci_restart gets kinds and tags only:
- *   image, image_bytes  the map of the fuses, little-endian; only read
+ * What is lent to every function, save that sci_partition gets the image only,
+ * sci_restart kinds and tags only, and sci_states no kinds and tags:
+ *   image, image_bytes  the map of the fuses, as below; only read
  *   cells, cell_count   the fuse cells, 32 fuses each; written by sci_write,
  *                       sci_zeroize, sci_erase, sci_erase_cut and, for FERS
  *                       alone, sci_mailbox. Only read by sci_read, though the
- *                       pointer is not const there either
- *   marks, mark_count   the stuck marks, one number for each cell; only read
+ *                       pointer is not const there either, and by sci_states
+ *   marks, mark_count   the stuck marks, one number for each cell: a fuse whose
+ *                       bit is set here will not burn; if it is set, it stays
+ *                       so. Only read
  *   kinds, tags         the key cache: kinds[i] is 0 where place i is empty,
  *                       and tags[i] is then not looked at; otherwise the place
  *                       holds tags[i]. Any kind other than 0 is read as held.
@@ -29,10 +35,36 @@
  *                       alone: a place that is filled gets kind 1, one that is
  *                       emptied kind 0 and tag 0. All zeros are an empty cache.
  *
+ * The map, all numbers little-endian:
+ *   header      four u16: partitions P (1 to 16), cells C (4 to 2,048), bound B
+ *               (33 to 64), offset E of the entries (8 to 128)
+ *   8 up to E   zeros
+ *   E on        P entries of 8 bytes, and nothing behind them: u16 first cell,
+ *               u16 cells n, u8 kind (0 hardware, 1 software, 2 life cycle), u8
+ *               flags (1 zeroizable, 2 secret, 4 HEK slot), two zero bytes
+ * First and n are even, n at least 4, and at least 6 if zeroizable. Entries
+ * ascend without overlap and end by C; gaps are allowed. Life cycle is never
+ * zeroizable, secret needs kind 0, a slot is zeroizable and secret.
+ *
+ * Words. An even cell and the next are a pair, low half first. A zeroizable
+ * partition ends with its indicator, a pair, and before it the digest, a pair;
+ * any other ends with the digest. The cells before are data. A word is a pair;
+ * only a data word of kind 1 is one cell. It is named by its first cell, counted
+ * in the whole array.
+ *
+ * States. A pair is short when it has fewer ones than B. A partition is counted
+ * as zeroized when it is zeroizable and its indicator is not short. It is
+ *   erased      if it is counted and no pair of it is short
+ *   torn        if it is counted and some pair of it is short
+ *   blank       if it is not counted and every data cell is zero
+ *   programmed  if it is not counted and some data fuse is set
+ * The active slot is the first slot in map order that is not erased. The HEK is
+ * available when there is an active slot and it is programmed.
+ *
  * Refusal numbers. They are checked in ascending order and the lowest that
  * applies is answered. A refused call leaves everything that is lent as it was;
  * 15 alone leaves the fuses named there.
- *    1  the map breaks a rule
+ *    1  the map breaks a rule above
  *    2  cells or marks are not as many as the map says; for the mailbox also
  *       the block is not SCI_BLOCK_BYTES long, or the response buffer is
  *       under SCI_LEAST_RESPONSE bytes
@@ -68,6 +100,14 @@ extern "C" {
 #define SCI_BLOCK_BYTES 128
 /* The shortest response buffer that is accepted. */
 #define SCI_LEAST_RESPONSE 20
+/* The most partitions that a map has. */
+#define SCI_PARTITIONS 16
+
+/* states[i] of sci_states */
+#define SCI_STATE_ERASED 0
+#define SCI_STATE_TORN 1
+#define SCI_STATE_BLANK 2
+#define SCI_STATE_PROGRAMMED 3
 
 /* sci_answer.kind */
 #define SCI_WORD 0
@@ -96,6 +136,25 @@ extern "C" {
 #define SCI_FERS UINT32_C(0x46455253)
 #define SCI_FSTA UINT32_C(0x46535441)
 
+/* What the map says of a partition, and of the whole array. On refusal all but
+ * the refusal's number is 0. */
+typedef struct {
+    uint32_t refusal;    /* the refusal's number, else 0 */
+    uint32_t partitions; /* P, the map's partitions, numbered from 0 */
+    uint32_t cells;      /* C, the cells of the whole array */
+    uint32_t bound;      /* B, the ones of a pair that is not short */
+    uint32_t first;      /* the partition's first cell, in the whole array */
+    uint32_t length;     /* n, its number of cells */
+    uint32_t kind;       /* 0 hardware, 1 software, 2 life cycle */
+    uint32_t flags;      /* the sum of 1 zeroizable, 2 secret, 4 HEK slot */
+} sci_fields;
+
+/* What sci_states answers beside its two arrays. */
+typedef struct {
+    uint32_t refusal;    /* the refusal's number, else 0 */
+    uint32_t partitions; /* P, the states that were written; 0 on refusal */
+} sci_listing;
+
 /* What a direct command answers. */
 typedef struct {
     uint32_t kind;    /* SCI_WORD, SCI_DONE, SCI_WITHHELD or SCI_REFUSED */
@@ -123,6 +182,27 @@ typedef struct {
     uint32_t place;   /* of a load or unload, else 0 */
     uint32_t timeout; /* of a clear, load or unload, else 0 */
 } sci_reply;
+
+/*
+ * The fields of the partition of this number, read from the image in place;
+ * only the image is needed. Partition 0 of a map that is not refused is always
+ * there, and its answer tells how many there are. Changes nothing.
+ * Refused: 1; 7 if there is no such partition.
+ */
+sci_fields sci_partition(const uint8_t *image, size_t image_bytes, uint32_t partition);
+
+/*
+ * The state and the short pairs of every partition: those of partition i are
+ * written to states[i], as a SCI_STATE_ number, and to short_pairs[i], which
+ * counts digest and indicator too. Answers how many partitions there are; the
+ * elements past them keep their numbers, and nothing else changes. The states do
+ * not depend on the marks, but marks of another count are refused too.
+ * Refused: 1, 2; nothing is written.
+ */
+sci_listing sci_states(const uint8_t *image, size_t image_bytes,
+                       const uint32_t *cells, size_t cell_count,
+                       const uint32_t *marks, size_t mark_count,
+                       uint32_t states[SCI_PARTITIONS], uint32_t short_pairs[SCI_PARTITIONS]);
 
 /*
  * READ of the word that starts at this cell. Answers the word; one of 32 bits
@@ -241,6 +321,9 @@ void sci_restart(uint8_t kinds[SCI_PLACES], uint64_t tags[SCI_PLACES]);
  * unchanged, and there is no order for the engine.
  * FSTA changes nothing but the response; there is no order for the engine.
  *
+ * The response buffer has SCI_LEAST_RESPONSE bytes or more, the block has
+ * SCI_BLOCK_BYTES: the engine's registers from 00h on, without CTRL at 80h. Where
+ * there is an order, the caller hands it to the engine with the block.
  * No command but FERS changes a cell. Response bytes past the response keep
  * their values.
  * Refused: 1 to 6; FERS also 7, 8, 10, 15; KLOD also 11, 12, 13; KUNL also 14.

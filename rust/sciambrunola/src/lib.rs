@@ -1,5 +1,6 @@
-//! The proved key block of a drive controller: direct commands on its fuses,
-//! the erasure of a partition, the key cache of 16 places, and the mailbox.
+//! The proved key block of a drive controller: the map of its fuses, the states
+//! of its partitions, direct commands on its fuses, the erasure of a partition,
+//! the key cache of 16 places, and the mailbox.
 //!
 //! Every function answers for any bytes and any lengths, and a refusal changes
 //! nothing that is lent, save that 15 leaves the indicator burned. The refusal
@@ -16,11 +17,15 @@
 
 mod answer;
 mod cache;
+mod fields;
 #[allow(unsafe_code)]
 mod raw;
+mod states;
 
 pub use answer::{Answer, Erasure, Order, Reply};
 pub use cache::Cache;
+pub use fields::Fields;
+pub use states::{Listing, State, States};
 
 /// A direct command (document 01, "Direct commands"). Each names a word by its
 /// first cell in the whole array.
@@ -43,6 +48,20 @@ pub enum Command {
         /// The word's first cell.
         cell: u32,
     },
+}
+
+/// The fields of the partition of this number, read from the map in place, with
+/// those of the map's header.
+pub fn partition(image: &[u8], number: u32) -> Fields {
+    Fields::from_raw(raw::partition(image, number))
+}
+
+/// The state and the short pairs of every partition of the map.
+///
+/// The states do not depend on the marks, but marks that are not as many as the
+/// map says are refused too.
+pub fn states(image: &[u8], cells: &[u32], marks: &[u32]) -> States {
+    States::of(image, cells, marks)
 }
 
 /// Carries out a direct command on the fuses that `image` maps.

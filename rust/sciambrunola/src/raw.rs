@@ -6,6 +6,11 @@
 //! so it overlaps no other. Shared slices may be the same or overlap.
 
 use crate::cache::Cache;
+use crate::states::PARTITIONS;
+
+pub(crate) const STATE_ERASED: u32 = 0;
+pub(crate) const STATE_TORN: u32 = 1;
+pub(crate) const STATE_BLANK: u32 = 2;
 
 pub(crate) const WORD: u32 = 0;
 pub(crate) const DONE: u32 = 1;
@@ -18,6 +23,26 @@ pub(crate) const NO_CELL: u32 = 0xFFFF_FFFF;
 pub(crate) const CLEAR: u32 = 1;
 pub(crate) const LOAD: u32 = 2;
 pub(crate) const UNLOAD: u32 = 3;
+
+/// `sci_fields`
+#[repr(C)]
+pub(crate) struct Fields {
+    pub(crate) refusal: u32,
+    pub(crate) partitions: u32,
+    pub(crate) cells: u32,
+    pub(crate) bound: u32,
+    pub(crate) first: u32,
+    pub(crate) length: u32,
+    pub(crate) kind: u32,
+    pub(crate) flags: u32,
+}
+
+/// `sci_listing`
+#[repr(C)]
+pub(crate) struct Listing {
+    pub(crate) refusal: u32,
+    pub(crate) partitions: u32,
+}
 
 /// `sci_answer`
 #[repr(C)]
@@ -47,7 +72,7 @@ pub(crate) struct Reply {
     pub(crate) timeout: u32,
 }
 
-/// What every function but the restart is lent.
+/// A drive as most functions are lent it, with cells that they may change.
 pub(crate) struct Drive<'a> {
     pub(crate) image: &'a [u8],
     pub(crate) cells: &'a mut [u32],
@@ -61,79 +86,37 @@ pub(crate) struct Buffers<'a> {
     pub(crate) block: &'a mut [u8],
 }
 
-extern "C" {
-    fn sci_read(
-        image: *const u8,
-        image_bytes: usize,
-        cells: *mut u32,
-        cell_count: usize,
-        marks: *const u32,
-        mark_count: usize,
-        kinds: *const u8,
-        tags: *const u64,
-        cell: u32,
-    ) -> Answer;
+/// Declares functions of the archive that are lent a drive. Before the parameters
+/// that stand here they have the drive's: each part's pointer, then its count.
+macro_rules! lent_a_drive {
+    ($(fn $function:ident($($parameter:ident: $type:ty),*) -> $answer:ty;)*) => {
+        extern "C" {
+            $(fn $function(
+                image: *const u8,
+                image_bytes: usize,
+                cells: *mut u32,
+                cell_count: usize,
+                marks: *const u32,
+                mark_count: usize,
+                $($parameter: $type),*
+            ) -> $answer;)*
+        }
+    };
+}
 
-    fn sci_write(
-        image: *const u8,
-        image_bytes: usize,
-        cells: *mut u32,
-        cell_count: usize,
-        marks: *const u32,
-        mark_count: usize,
-        kinds: *const u8,
-        tags: *const u64,
-        cell: u32,
-        value: u64,
-    ) -> Answer;
-
-    fn sci_zeroize(
-        image: *const u8,
-        image_bytes: usize,
-        cells: *mut u32,
-        cell_count: usize,
-        marks: *const u32,
-        mark_count: usize,
-        kinds: *const u8,
-        tags: *const u64,
-        cell: u32,
-    ) -> Answer;
-
-    fn sci_erase(
-        image: *const u8,
-        image_bytes: usize,
-        cells: *mut u32,
-        cell_count: usize,
-        marks: *const u32,
-        mark_count: usize,
-        kinds: *const u8,
-        tags: *const u64,
-        partition: u32,
-    ) -> Erasure;
-
+lent_a_drive! {
+    fn sci_read(kinds: *const u8, tags: *const u64, cell: u32) -> Answer;
+    fn sci_write(kinds: *const u8, tags: *const u64, cell: u32, value: u64) -> Answer;
+    fn sci_zeroize(kinds: *const u8, tags: *const u64, cell: u32) -> Answer;
+    fn sci_erase(kinds: *const u8, tags: *const u64, partition: u32) -> Erasure;
     fn sci_erase_cut(
-        image: *const u8,
-        image_bytes: usize,
-        cells: *mut u32,
-        cell_count: usize,
-        marks: *const u32,
-        mark_count: usize,
         kinds: *mut u8,
         tags: *mut u64,
         partition: u32,
         k: u32,
-        mask: u64,
+        mask: u64
     ) -> Erasure;
-
-    fn sci_restart(kinds: *mut u8, tags: *mut u64);
-
     fn sci_mailbox(
-        image: *const u8,
-        image_bytes: usize,
-        cells: *mut u32,
-        cell_count: usize,
-        marks: *const u32,
-        mark_count: usize,
         kinds: *mut u8,
         tags: *mut u64,
         code: u32,
@@ -142,8 +125,25 @@ extern "C" {
         response: *mut u8,
         response_bytes: usize,
         block: *mut u8,
-        block_bytes: usize,
+        block_bytes: usize
     ) -> Reply;
+}
+
+extern "C" {
+    fn sci_partition(image: *const u8, image_bytes: usize, partition: u32) -> Fields;
+
+    fn sci_states(
+        image: *const u8,
+        image_bytes: usize,
+        cells: *const u32,
+        cell_count: usize,
+        marks: *const u32,
+        mark_count: usize,
+        states: *mut u32,
+        short_pairs: *mut u32,
+    ) -> Listing;
+
+    fn sci_restart(kinds: *mut u8, tags: *mut u64);
 }
 
 /// Calls a function of the archive with the parts of a drive, each pointer
@@ -166,6 +166,34 @@ macro_rules! call {
             )
         }
     }};
+}
+
+pub(crate) fn partition(image: &[u8], number: u32) -> Fields {
+    // SAFETY: pointer and count are those of a borrowed slice, which is only read.
+    unsafe { sci_partition(image.as_ptr(), image.len(), number) }
+}
+
+pub(crate) fn states(
+    image: &[u8],
+    cells: &[u32],
+    marks: &[u32],
+    states: &mut [u32; PARTITIONS],
+    short_pairs: &mut [u32; PARTITIONS],
+) -> Listing {
+    // SAFETY: every pointer and count is that of a borrowed slice, which is only
+    // read, or that of an array of 16, borrowed mutably.
+    unsafe {
+        sci_states(
+            image.as_ptr(),
+            image.len(),
+            cells.as_ptr(),
+            cells.len(),
+            marks.as_ptr(),
+            marks.len(),
+            states.as_mut_ptr(),
+            short_pairs.as_mut_ptr(),
+        )
+    }
 }
 
 pub(crate) fn read(drive: Drive, cache: &Cache, cell: u32) -> Answer {

@@ -1,0 +1,89 @@
+//! The states of a drive's partitions (document 01, "Burning and counting").
+
+use crate::raw;
+
+/// The most partitions that a map has.
+pub(crate) const PARTITIONS: usize = 16;
+
+/// What [`states`](crate::states) answers.
+#[derive(Clone, Copy, Debug, PartialEq, Eq)]
+pub enum States {
+    /// The state and the short pairs of every partition.
+    Listed(Listing),
+    /// Refused with this number: 1 for a bad map, 2 for cells or marks that are
+    /// not as many as the map says.
+    Refused(u32),
+}
+
+/// The state of a partition.
+#[derive(Clone, Copy, Debug, PartialEq, Eq)]
+pub enum State {
+    /// Counted as zeroized, no pair short.
+    Erased,
+    /// Counted as zeroized, some pair short.
+    Torn,
+    /// Not counted, every data cell zero.
+    Blank,
+    /// Not counted, some data fuse set.
+    Programmed,
+}
+
+/// The state and the short pairs of each partition of a map, numbered from 0.
+#[derive(Clone, Copy, Debug, PartialEq, Eq)]
+pub struct Listing {
+    partitions: u32,
+    /// The archive's numbers of the states; 0 past the map's partitions, as are
+    /// the short pairs.
+    states: [u32; PARTITIONS],
+    short_pairs: [u32; PARTITIONS],
+}
+
+impl State {
+    /// The state's name in document 01.
+    pub fn name(self) -> &'static str {
+        match self {
+            State::Erased => "erased",
+            State::Torn => "torn",
+            State::Blank => "blank",
+            State::Programmed => "programmed",
+        }
+    }
+
+    fn from_raw(state: u32) -> State {
+        match state {
+            raw::STATE_ERASED => State::Erased,
+            raw::STATE_TORN => State::Torn,
+            raw::STATE_BLANK => State::Blank,
+            _ => State::Programmed,
+        }
+    }
+}
+
+impl Listing {
+    /// How many partitions the map has, 1 to 16.
+    #[allow(clippy::len_without_is_empty)] // no map is without a partition
+    pub fn len(&self) -> u32 {
+        self.partitions
+    }
+
+    /// The state of the partition of this number, and how many of its pairs are
+    /// short, those of digest and indicator included. None if there is no such
+    /// partition.
+    pub fn get(&self, partition: u32) -> Option<(State, u32)> {
+        let place = (partition < self.partitions).then_some(partition as usize)?;
+        let (state, short_pairs) = (self.states.get(place)?, self.short_pairs.get(place)?);
+        Some((State::from_raw(*state), *short_pairs))
+    }
+}
+
+impl States {
+    /// The states of a drive, asked for by the archive's call.
+    pub(crate) fn of(image: &[u8], cells: &[u32], marks: &[u32]) -> States {
+        let (mut states, mut short_pairs) = ([0; PARTITIONS], [0; PARTITIONS]);
+        let listing = raw::states(image, cells, marks, &mut states, &mut short_pairs);
+        match listing.refusal {
+            0 => States::Listed(Listing { partitions: listing.partitions, states, short_pairs }),
+            number => States::Refused(number),
+        }
+    }
+}
