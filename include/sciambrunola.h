@@ -41,7 +41,8 @@
  *   8 up to E   zeros
  *   E on        P entries of 8 bytes, and nothing behind them: u16 first cell,
  *               u16 cells n, u8 kind (0 hardware, 1 software, 2 life cycle), u8
- *               flags (1 zeroizable, 2 secret, 4 HEK slot), two zero bytes
+ *               flags (1 zeroizable, 2 secret, 4 HEK slot; higher bits zero), two
+ *               zero bytes
  * First and n are even, n at least 4, and at least 6 if zeroizable. Entries
  * ascend without overlap and end by C; gaps are allowed. Life cycle is never
  * zeroizable, secret needs kind 0, a slot is zeroizable and secret.

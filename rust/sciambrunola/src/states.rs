@@ -77,12 +77,17 @@ impl Listing {
 }
 
 impl States {
-    /// The states of a drive, asked for by the archive's call.
+    /// The states of a drive, asked for by the archive's call, which writes them
+    /// in place.
     pub(crate) fn of(image: &[u8], cells: &[u32], marks: &[u32]) -> States {
-        let (mut states, mut short_pairs) = ([0; PARTITIONS], [0; PARTITIONS]);
-        let listing = raw::states(image, cells, marks, &mut states, &mut short_pairs);
-        match listing.refusal {
-            0 => States::Listed(Listing { partitions: listing.partitions, states, short_pairs }),
+        let mut listing =
+            Listing { partitions: 0, states: [0; PARTITIONS], short_pairs: [0; PARTITIONS] };
+        let Listing { states, short_pairs, .. } = &mut listing;
+        let raw::Listing { refusal, partitions } =
+            raw::states(image, cells, marks, states, short_pairs);
+        listing.partitions = partitions;
+        match refusal {
+            0 => States::Listed(listing),
             number => States::Refused(number),
         }
     }
