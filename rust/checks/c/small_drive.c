@@ -6,19 +6,10 @@
  */
 #include "sciambrunola.h"
 
-#include <inttypes.h>
-#include <stdio.h>
+#include "drive.h"
+
 #include <string.h>
 
-#define CELLS 12
-
-static const uint8_t image[] = {
-    2, 0, 12, 0, 60, 0, 8, 0, /* P, C, B, E */
-    0, 0, 6, 0, 0, 7, 0, 0,   /* entry 0, the slot */
-    6, 0, 6, 0, 1, 0, 0, 0    /* entry 1, software */
-};
-static uint32_t cells[CELLS] = {1};
-static uint32_t marks[CELLS];
 static uint8_t kinds[SCI_PLACES];
 static uint64_t tags[SCI_PLACES];
 
@@ -34,16 +25,6 @@ static void print_erasure(const char *name, sci_erasure erasure)
            ", burns %" PRIu32 "\n",
            name, erasure.kind, erasure.refusal, erasure.short_pairs, erasure.first_short,
            erasure.burns);
-}
-
-static void print_cells(void)
-{
-    size_t i;
-    printf("cells:");
-    for (i = 0; i < CELLS; i++) {
-        printf(" %" PRIX32, cells[i]);
-    }
-    printf("\n");
 }
 
 static void print_reply(const char *name, sci_reply reply)

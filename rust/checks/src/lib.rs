@@ -14,6 +14,7 @@ pub mod inputs;
 pub mod layout;
 pub mod maps;
 pub mod random;
+pub mod readings;
 pub mod runner;
 pub mod sights;
 pub mod small;

@@ -5,8 +5,8 @@ use model::drive::Drive;
 use model::mailbox::fields::Command as Mail;
 use model::mailbox::request::{Request, Values};
 use model::map::Map;
-use model::partition::Partition;
-use sciambrunola::{direct, erase, erase_cut, mailbox, Answer, Cache, Command, Erasure, Reply};
+use sciambrunola::{direct, erase, erase_cut, mailbox, partition, states};
+use sciambrunola::{Answer, Cache, Command, Erasure, Fields, Reply, State, States};
 
 /// The partition that is a slot; the other one is software.
 pub const SLOT: u32 = 0;
@@ -32,8 +32,20 @@ impl Small {
         small
     }
 
-    /// Carries out a direct command. Inlined, as are the calls below, so that a
+    /// The map's fields of the slot. Inlined, as are the calls below, so that a
     /// measure of the stack begins at the key block's own call.
+    #[inline(always)]
+    pub fn fields(&self) -> Fields {
+        partition(&self.drive.image, SLOT)
+    }
+
+    /// The states of both partitions.
+    #[inline(always)]
+    pub fn states(&self) -> States {
+        states(&self.drive.image, &self.drive.cells, &self.drive.marks)
+    }
+
+    /// Carries out a direct command.
     #[inline(always)]
     pub fn direct(&mut self, command: Command) -> Answer {
         let Small { drive, cache, .. } = self;
@@ -94,11 +106,21 @@ impl Small {
         self.drive.map().expect("the small drive's map is good")
     }
 
-    /// The slot's state and its short pairs, read from the cells by the model:
-    /// no call of the key block tells them.
-    pub fn state(&self) -> (String, usize) {
-        let map = self.map();
-        let slot = Partition::of(&map, SLOT as usize, &self.drive.cells);
-        (slot.state().to_string(), slot.short_pairs())
+    /// The slot's state and its short pairs.
+    pub fn state(&self) -> (State, u32) {
+        match self.states() {
+            States::Listed(listing) => listing.get(SLOT).expect("the map has a slot"),
+            States::Refused(number) => panic!("the states are refused with {number}"),
+        }
+    }
+
+    /// The cells of the slot as they stand.
+    pub fn slot_cells(&self) -> &[u32] {
+        match self.fields() {
+            Fields::Partition { first, length, .. } => {
+                &self.drive.cells[first as usize..][..length as usize]
+            }
+            Fields::Refused(number) => panic!("the fields are refused with {number}"),
+        }
     }
 }

@@ -1,12 +1,28 @@
 //! Runs of the tools that look at the archive from outside.
 
 use crate::runner::in_repository;
-use std::path::PathBuf;
+use std::path::{Path, PathBuf};
 use std::process::Command;
 
 /// The path of the proved archive.
 pub fn archive() -> PathBuf {
     in_repository("target/staticlib/libsciambrunola.a")
+}
+
+/// Compiles a C program of the repository, with every warning an error, and links
+/// it with the archive. Gives its path in that directory.
+pub fn compiled(source: &str, directory: &Path) -> PathBuf {
+    let program = directory.join(source.replace(['/', '.'], "_"));
+    printed(
+        Command::new("cc")
+            .args(["-std=c99", "-Wall", "-Wextra", "-Wpedantic", "-Werror", "-I"])
+            .arg(in_repository("include"))
+            .arg(in_repository(source))
+            .arg(archive())
+            .arg("-o")
+            .arg(&program),
+    );
+    program
 }
 
 /// Runs a tool and gives what it printed. Fails the test if it does not start,

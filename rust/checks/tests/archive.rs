@@ -25,8 +25,10 @@ fn archive_defines_the_headers_functions_for_others_and_no_more() {
         "sci_erase",
         "sci_erase_cut",
         "sci_mailbox",
+        "sci_partition",
         "sci_read",
         "sci_restart",
+        "sci_states",
         "sci_write",
         "sci_zeroize",
     ];

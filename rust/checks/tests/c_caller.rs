@@ -1,12 +1,11 @@
-//! The header and the archive from C: `c/small_drive.c` is compiled with every
-//! warning an error, linked and run.
+//! The header and the archive from C: the programs in `c/` are compiled with
+//! every warning an error, linked and run. Their lines are written from document 01.
 
-use checks::runner::{in_repository, run};
+use checks::runner::run;
 use checks::tools;
-use std::path::{Path, PathBuf};
-use std::process::Command;
+use std::path::Path;
 
-const EXPECTED: &str = "\
+const SMALL_DRIVE: &str = "\
 FSTA: refusal 0, length 20, order 0, place 0, timeout 0
 response buffer: FF FF FF FF 00 00 00 00 00 00 00 00 00 00 00 00 01 00 00 00 A5 A5 A5 A5
 CLKC with FSTA's request: refusal 4, length 0, order 0, place 0, timeout 0
@@ -36,22 +35,44 @@ erasure again: kind 0, refusal 0, short 0, first 4294967295, burns 3
 cells: FFFFFFFF FFFFFFFF FFFFFFFF FFFFFFFF FFFFFFFF FFFFFFFF 0 0 0 0 0 0
 ";
 
-fn compiled() -> PathBuf {
-    let program = Path::new(env!("CARGO_TARGET_TMPDIR")).join("small_drive_from_c");
-    tools::printed(
-        Command::new("cc")
-            .args(["-std=c99", "-Wall", "-Wextra", "-Wpedantic", "-Werror", "-I"])
-            .arg(in_repository("include"))
-            .arg(in_repository("rust/checks/c/small_drive.c"))
-            .arg(tools::archive())
-            .arg("-o")
-            .arg(&program),
-    );
-    program
+const READINGS: &str = "\
+partition 0: refusal 0, partitions 2, cells 12, bound 60, first 0, length 6, kind 0, flags 7
+partition 1: refusal 0, partitions 2, cells 12, bound 60, first 6, length 6, kind 1, flags 0
+partition 2: refusal 7, partitions 0, cells 0, bound 0, first 0, length 0, kind 0, flags 0
+partition 0, map a byte too short: \
+refusal 1, partitions 0, cells 0, bound 0, first 0, length 0, kind 0, flags 0
+small drive: refusal 0, partitions 2
+states: 3 2 A A A A A A A A A A A A A A
+short pairs: 3 3 A A A A A A A A A A A A A A
+map a byte too short: refusal 1, partitions 0
+states: A A A A A A A A A A A A A A A A
+short pairs: A A A A A A A A A A A A A A A A
+a cell too few: refusal 2, partitions 0
+states: A A A A A A A A A A A A A A A A
+short pairs: A A A A A A A A A A A A A A A A
+a mark too few: refusal 2, partitions 0
+states: A A A A A A A A A A A A A A A A
+short pairs: A A A A A A A A A A A A A A A A
+cells: 1 0 0 0 0 0 0 0 0 0 0 0
+59 ones in word 0: refusal 0, partitions 2
+states: 1 2 A A A A A A A A A A A A A A
+short pairs: 1 3 A A A A A A A A A A A A A A
+all ones: refusal 0, partitions 2
+states: 0 2 A A A A A A A A A A A A A A
+short pairs: 0 3 A A A A A A A A A A A A A A
+";
+
+fn printed(source: &str) -> String {
+    let program = tools::compiled(source, Path::new(env!("CARGO_TARGET_TMPDIR")));
+    String::from_utf8(run(&program, &[])).expect("the program prints text")
 }
 
 #[test]
 fn c_program_gets_the_documents_answers() {
-    let printed = run(&compiled(), &[]);
-    assert_eq!(String::from_utf8_lossy(&printed), EXPECTED);
+    assert_eq!(printed("rust/checks/c/small_drive.c"), SMALL_DRIVE);
+}
+
+#[test]
+fn c_program_reads_the_documents_fields_and_states() {
+    assert_eq!(printed("rust/checks/c/readings.c"), READINGS);
 }

@@ -15,6 +15,7 @@ pub mod lent;
 pub mod mailbox;
 pub mod map;
 pub mod partition;
+pub mod reading;
 pub mod refusal;
 pub mod restart;
 pub mod slot;

@@ -28,6 +28,11 @@ impl Map {
         Some(Map { header, entries })
     }
 
+    /// "The map of the fuses": the header.
+    pub fn header(&self) -> Header {
+        self.header
+    }
+
     /// "The map of the fuses": cell count C.
     pub fn cells(&self) -> usize {
         usize::from(self.header.cells)

@@ -53,7 +53,7 @@ fn line(
     };
     let word = format!("{} {cell}", part(word.part));
     let (k, short) = (k.to_string(), short.to_string());
-    let columns = [k.as_str(), &word, name, &cut, &after, &state, &short, &hek];
+    let columns = [k.as_str(), &word, name, &cut, &after, state.name(), &short, &hek];
     format!("{} {}", row(columns), answer(small.erase()))
 }
 

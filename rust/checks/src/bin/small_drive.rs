@@ -41,7 +41,7 @@ fn case_2() -> String {
     };
     let chksum = fers(0).right_chksum();
     let answer = erased_by_mailbox(&mut small, 0);
-    let cells = &small.cells()[..6];
+    let cells = small.slot_cells();
     let response = small.field(0);
     format!(
         "FERS 0, chksum 0x{chksum:08X}: {answer}, response chksum 0x{response:08X}, \
@@ -92,7 +92,7 @@ fn case_7() -> String {
     small.erase_cut(1, 0xFFFF_FFFF);
     let cut = format!("cells 0 and 1 {:08X?}, {}", &small.cells()[..2], state(&small));
     let again = erased_by_mailbox(&mut small, 0);
-    let cells = &small.cells()[..6];
+    let cells = small.slot_cells();
     format!("erasure cut at 1: {cut}; FERS 0 again: {again}, cells 0 to 5 {cells:08X?}")
 }
 
@@ -147,7 +147,7 @@ fn ones(small: &Small) -> u32 {
 
 fn state(small: &Small) -> String {
     let (state, short) = small.state();
-    format!("{state} with {short} short")
+    format!("{} with {short} short", state.name())
 }
 
 fn text(reply: Reply) -> String {

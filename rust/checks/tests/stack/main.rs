@@ -1,6 +1,7 @@
 //! The stack that each command of the key block uses, in bytes, the safe Rust
 //! call and everything under it included: every command carried out, and
-//! mailbox commands refused. It says something in an optimised build alone.
+//! mailbox commands refused; and of the calls that only read. It says something
+//! in an optimised build alone.
 
 mod painted;
 
@@ -8,10 +9,10 @@ use checks::small::Small;
 use model::mailbox::fields::Command;
 use model::mailbox::request::{Request, Values};
 use painted::depth;
-use sciambrunola::{Answer, Cache, Erasure, Reply};
+use sciambrunola::{Answer, Cache, Erasure, Fields, Reply, States};
 use std::io::Write;
 
-/// The most that any command may use.
+/// The most that any call may use.
 const MOST: usize = 1024;
 
 /// A software word of the small drive, which READ and WRITE may touch, and a
@@ -24,6 +25,16 @@ fn small(held: Option<u64>) -> Small {
     let mut places = [None; 16];
     places[9] = held;
     Small::new(Cache::from_places(places))
+}
+
+/// The stack of the slot's fields, which are told.
+fn of_fields() -> usize {
+    measured(None, true, |small| matches!(small.fields(), Fields::Partition { .. }))
+}
+
+/// The stack of the states, which are listed.
+fn of_states() -> usize {
+    measured(None, true, |small| matches!(small.states(), States::Listed(_)))
 }
 
 /// The stack of a direct command, which is carried out.
@@ -62,9 +73,11 @@ fn measured(held: Option<u64>, expected: bool, call: impl Fn(&mut Small) -> bool
 
 #[test]
 #[cfg_attr(debug_assertions, ignore = "the stack is measured in an optimised build")]
-fn every_command_uses_less_than_1_kib() {
+fn every_call_uses_less_than_1_kib() {
     use sciambrunola::Command::{Read, Write, Zeroize};
     let used = [
+        ("fields", of_fields()),
+        ("states", of_states()),
         ("READ", of_direct(Read { cell: SOFTWARE_WORD })),
         ("WRITE", of_direct(Write { cell: SOFTWARE_WORD, value: 5 })),
         ("ZEROIZE", of_direct(Zeroize { cell: SLOT_WORD })),
