@@ -2,6 +2,7 @@
  * The key block from C, on the small drive of document 01: its map and its states
  * are read, a key is loaded, an erasure is refused while the key is held, another
  * is cut by a power failure, and the next one ends it. Each step prints a line.
+ * main, at the end, tells the story.
  *
  * From the root of the repository, once the archive is built:
  *   cc -std=c99 -I include examples/c/key_block.c target/staticlib/libsciambrunola.a -o key_block
@@ -130,7 +131,8 @@ static bool load_key(uint64_t tag, const uint8_t mek[MEK_BYTES])
     if (reply.refusal != 0) {
         return failed("KLOD", reply.refusal);
     }
-    /* Here a drive writes the block to the engine's registers and orders the load. */
+    /* Here a drive writes the block to the engine's registers, orders the load, and
+     * wipes request and block, which hold the key. */
     printf("KLOD: place %" PRIu32 ", timeout %" PRIu32 "\n", reply.place, reply.timeout);
     return true;
 }

@@ -1,7 +1,7 @@
 //! The key block from Rust, on the small drive of document 01: its map and its
 //! states are read, a key is loaded, an erasure is refused while the key is held,
 //! another is cut by a power failure, and the next one ends it. Each step prints
-//! a line.
+//! a line. `main`, at the end, tells the story.
 //!
 //! From the root of the repository, once the archive is built:
 //!   cargo run --offline --release --manifest-path rust/Cargo.toml --bin key_block
@@ -9,6 +9,7 @@
 
 use sciambrunola::{erase, erase_cut, mailbox, partition, restart, states};
 use sciambrunola::{Cache, Erasure, Fields, Order, Reply, States};
+use std::fmt::Debug;
 
 /// Codes of mailbox commands.
 const KLOD: u32 = 0x4B4C_4F44;
@@ -41,21 +42,21 @@ struct Drive {
     block: [u8; 128],
 }
 
-/// What a step comes to; the text says which one was refused though it should not
-/// have been.
+/// What a step comes to; the text says which one failed.
 type Step = Result<(), String>;
 
-fn refused(step: &str, number: u32) -> Step {
-    Err(format!("{step}: refused {number}"))
+/// A step that was answered otherwise than it should have been, most likely refused.
+fn failed(step: &str, answer: impl Debug) -> Step {
+    Err(format!("{step}: {answer:?}"))
 }
 
 fn read_map() -> Step {
     let partitions = match partition(&MAP, 0) {
-        Fields::Refused(number) => return refused("map", number),
         Fields::Partition { partitions, cells, bound, .. } => {
             println!("map: {partitions} partitions, {cells} cells, bound {bound}");
             partitions
         }
+        other => return failed("map", other),
     };
     for i in 0..partitions {
         // These are there, so none is refused.
@@ -69,16 +70,10 @@ fn read_map() -> Step {
 }
 
 impl Drive {
-    fn new() -> Drive {
-        let mut cells = [0; 12];
-        cells[0] = 1;
-        Drive { cells, marks: [0; 12], cache: Cache::default(), response: [0; 20], block: [0; 128] }
-    }
-
     fn list_states(&self) -> Step {
         let listing = match states(&MAP, &self.cells, &self.marks) {
-            States::Refused(number) => return refused("states", number),
             States::Listed(listing) => listing,
+            other => return failed("states", other),
         };
         let line = (0..listing.len()).filter_map(|i| {
             let (state, short_pairs) = listing.get(i)?;
@@ -108,21 +103,21 @@ impl Drive {
         put_field(&mut request, 16, (tag >> 32) as u32);
         request[20..].copy_from_slice(mek);
         match self.ask(KLOD, &mut request) {
-            Reply::Refused(number) => return refused("KLOD", number),
-            // Here a drive writes the block to the engine's registers and orders the load.
             Reply::Accepted { order: Order::Load { place, timeout }, .. } => {
+                // Here a drive writes the block to the engine's registers, orders the
+                // load, and wipes request and block, which hold the key.
                 println!("KLOD: place {place}, timeout {timeout}");
+                Ok(())
             }
-            Reply::Accepted { .. } => {} // no other order follows a KLOD
+            other => failed("KLOD", other),
         }
-        Ok(())
     }
 
     /// Which slot is active, 0xFFFFFFFF if none is, and whether its key is available.
     fn ask_for_status(&mut self) -> Step {
         let mut request = [0; 8]; // chksum, reserved
         if let Reply::Refused(number) = self.ask(FSTA, &mut request) {
-            return refused("FSTA", number);
+            return failed("FSTA", number);
         }
         let (active, available) = (field(&self.response, 12), field(&self.response, 16));
         println!("FSTA: active slot 0x{active:08X}, HEK available {available}");
@@ -146,11 +141,12 @@ impl Drive {
     fn erase_slot_cut(&mut self) -> Step {
         let Drive { cells, marks, cache, .. } = self;
         match erase_cut(&MAP, cells, marks, cache, SLOT, 1, 0xFFFF_FFFF) {
-            Erasure::Cut { burns } => println!("erasure cut: {burns} burns"),
-            Erasure::Refused { number, .. } => return refused("cut erasure", number),
-            Erasure::Erased { .. } => {} // it has three burns, so it is cut at burn 1
+            Erasure::Cut { burns } => {
+                println!("erasure cut: {burns} burns");
+                Ok(())
+            }
+            other => failed("cut erasure", other),
         }
-        Ok(())
     }
 }
 
@@ -164,7 +160,9 @@ fn field(bytes: &[u8], at: usize) -> u32 {
 }
 
 fn main() -> Step {
-    let mut drive = Drive::new();
+    let cells = [1, 0, 0, 0, 0, 0, 0, 0, 0, 0, 0, 0];
+    let (marks, cache) = ([0; 12], Cache::default());
+    let mut drive = Drive { cells, marks, cache, response: [0; 20], block: [0; 128] };
     read_map()?;
     drive.list_states()?;
     drive.ask_for_status()?;
@@ -177,7 +175,7 @@ fn main() -> Step {
     drive.erase_slot_cut()?;
     drive.list_states()?;
     if let Erasure::Refused { number, .. } = drive.erase_slot() {
-        return refused("erasure", number);
+        return failed("erasure", number);
     }
     drive.list_states()?;
     drive.ask_for_status()
