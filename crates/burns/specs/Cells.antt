@@ -12,11 +12,11 @@ use lib.Seq.{getD-set-same, getD-take, getD-drop}
 use lib.Bits.{bitOr}
 use Rattle.laws.specs.Tests.{lt-or-le, cond-keeps}
 use Rattle.laws.specs.Bits.{_⊆_, sub-refl, sub-trans, sub-antisym, sub-or-l, sub-or-r, or-lub}
-use Rattle.fuse.specs.Fuse.{allSet, free, cellsIn, burnCell, burnWord}
+use Rattle.fuse.specs.Fuse.{allSet, free, cellsIn, allOnes, burnCell, burnWord}
 use Rattle.fuse.specs.Burn.{keeps, only-free, burn-all, absorbs, burn-apart}
 use Rattle.burns.specs.declared.Word.{Word}
 use Rattle.burns.specs.declared.End.the-variants.{Whole, Stopped, Cut}
-use Rattle.burns.specs.Run.{wordsFrom, dataWords, order, allOnes, Tally, start, carry, stopsAfter, Ran, ran, burnsOf, run}
+use Rattle.burns.specs.Run.{wordsFrom, dataWords, order, Tally, start, carry, stopsAfter, Ran, ran, burnsOf, run}
 
 -- ---- one cell
 

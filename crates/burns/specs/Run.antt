@@ -1,11 +1,11 @@
 -- Document 01, "Erasing a partition": the order of burns, and the one run in this order that erasures, cut ones and FERS are. Cells and
 -- marks are the partition's, counted from where it starts. Assumes nothing.
-use Prim.Native.Nat.{ℕ, zero, suc, _+_, _-_, _/_, _^_}
+use Prim.Native.Nat.{ℕ, zero, suc, _+_, _-_, _/_}
 use mathlib.Core.Bool.{Bool, true, cond, not, _&&_}
 use mathlib.Core.List.{List, [], _∷_, _++_}
 use lib.ListN.{length}
 use lib.Dec.{eqb}
-use Rattle.fuse.specs.Fuse.{cellsIn, burnWord}
+use Rattle.fuse.specs.Fuse.{cellsIn, allOnes, burnWord}
 use Rattle.partition.specs.Partition.{counted, tail}
 use Rattle.burns.specs.declared.Word.{Word}
 use Rattle.burns.specs.declared.End.{End}
@@ -36,10 +36,6 @@ unfoldable pub order : (software : Bool) (n : ℕ) → List Word
 order software n = pairFrom (n - 2) ∷ (dataWords software n ++ (pairFrom (n - tail true) ∷ []))
 
 -- ---- the run
-
--- "all ones each"
-abbrev pub allOnes : ℕ
-allOnes = 2 ^ 64 - 1
 
 -- what a run has done so far: the cells, and "the number of burns carried out"
 pub record Tally : Type 0 where

@@ -11,14 +11,14 @@ use lib.Seq.{ext-getD}
 use borrow.Author.Tests.{eqb-true, not-true, not-false}
 use Rattle.laws.specs.Tests.{and, not-yes, lt-or-le}
 use Rattle.laws.specs.Bits.{_⊆_}
-use Rattle.fuse.specs.Fuse.{burnWord}
+use Rattle.fuse.specs.Fuse.{allOnes, burnWord}
 use Rattle.fuse.specs.Burn.{short-anti}
 use Rattle.partition.specs.Partition.{pairs, shortAt, counted}
 use Rattle.partition.specs.Laws.{counted-is, counted-tells}
 use Rattle.burns.specs.declared.Word.{Word}
 use Rattle.burns.specs.declared.End.{End}
 use Rattle.burns.specs.declared.End.the-variants.{Whole, Stopped, Cut}
-use Rattle.burns.specs.Run.{pairFrom, dataWords, order, allOnes, Tally, start, carry, goesOn, stopsAfter, Ran, ran, burnsOf, run}
+use Rattle.burns.specs.Run.{pairFrom, dataWords, order, Tally, start, carry, goesOn, stopsAfter, Ran, ran, burnsOf, run}
 use Rattle.burns.specs.Turns.{stops-later}
 use Rattle.burns.specs.Cells.{full, Between, between-refl, between-trans, full-same, full-stays, Grown, grown-burn, burn-before, burn-fills, turn-keeps, grown-burns, cut-not-whole, stopped-not-whole, cut-not-stopped, run-fills}
 

@@ -11,11 +11,11 @@ use lib.ListN.{length, getD, drop, length-append, drop-of-length-le, List·getD-
 use lib.Seq.{drop-cons, getD-at}
 use lib.Dec.{eqb}
 use borrow.Author.Tests.{ne-eqb, eq-eqb}
-use Rattle.fuse.specs.Fuse.{cellsIn}
+use Rattle.fuse.specs.Fuse.{cellsIn, allOnes}
 use Rattle.burns.specs.declared.Word.{Word}
 use Rattle.burns.specs.declared.End.the-variants.{Whole, Stopped, Cut}
 use Rattle.burns.specs.Cells.{grown-burn}
-use Rattle.burns.specs.Run.{wordFrom, pairFrom, wordsFrom, dataWords, order, allOnes, Tally, tallyOf, start, carry, goesOn, stopsAfter, ran, burnsOf, run}
+use Rattle.burns.specs.Run.{wordFrom, pairFrom, wordsFrom, dataWords, order, Tally, tallyOf, start, carry, goesOn, stopsAfter, ran, burnsOf, run}
 
 -- ---- the order
 

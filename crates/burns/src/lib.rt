@@ -30,9 +30,6 @@ pub struct Report {
     pub burns: usize,
 }
 
-// What every burn but a cut one burns.
-const ALL_ONES: u64 = 0xFFFF_FFFF_FFFF_FFFF;
-
 // How many burns the order of a partition of `n` cells has.
 fn burn_count(n: usize, software: bool) -> usize
     requires { ⌜ 4 ≤ n ⌝ }
@@ -110,7 +107,7 @@ pub fn run(
                 burns: burns + 1,
             };
         }
-        fuse::burn_word(cells, marks, word.at, word.wide, ALL_ONES);
+        fuse::burn_word(cells, marks, word.at, word.wide, fuse::ALL_ONES);
         burns += 1;
         if stops_after(cells, bound, burns) {
             return Report {

@@ -1,5 +1,5 @@
 -- Document 01, "Direct commands": what a command on a word answers, and the cells that it leaves. Assumes nothing.
-use Prim.Native.Nat.{ℕ, _+_, _-_, _^_, _≤_, _<_}
+use Prim.Native.Nat.{ℕ, _+_, _^_, _≤_, _<_}
 use mathlib.Core.Path.{_≡_}
 use mathlib.Core.Bool.{Bool, true, false, cond, not, _&&_, _||_}
 use mathlib.Core.List.{List, [], _∷_, _++_}
@@ -8,7 +8,7 @@ use lib.ListN.{length, getD}
 use lib.Bits.{bitOr}
 use Rattle.laws.specs.Refusals.{lowest}
 use Rattle.map.specs.Map.{headerOf, entryOf, lifeCycle, zeroizable, secret}
-use Rattle.fuse.specs.Fuse.{pairOf, short, cellsIn, burnWord}
+use Rattle.fuse.specs.Fuse.{pairOf, short, cellsIn, allOnes, burnWord}
 use Rattle.word.specs.declared.Role.{Role}
 use Rattle.word.specs.declared.Role.the-variants.{Data, Digest, Indicator}
 use Rattle.word.specs.declared.Lookup.{Lookup}
@@ -80,7 +80,7 @@ directTests image cells marks cache command =
 unfoldable pub cellsAfter : Command → (wide : Bool) (marks cells : List ℕ) → List ℕ
 cellsAfter (Read cell) wide marks cells = cells
 cellsAfter (Write cell value) wide marks cells = burnWord marks cell wide value cells
-cellsAfter (Zeroize cell) wide marks cells = burnWord marks cell wide (2 ^ 64 - 1) cells
+cellsAfter (Zeroize cell) wide marks cells = burnWord marks cell wide allOnes cells
 
 -- what is answered of the word as it now stands. WRITE: "or done in a secret partition". ZEROIZE: "in a secret partition only if its
 -- ones reach B, otherwise withheld"

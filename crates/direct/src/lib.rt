@@ -31,9 +31,6 @@ pub enum Answer {
     Refused(u32),
 }
 
-// The kind that no WRITE changes.
-const LIFE_CYCLE: u8 = 2;
-
 // The cell that names a command's word.
 fn cell_of(command: Command) -> u32
     ensures { λ r. ⌜ r ≡ cellOf command ⌝ }
@@ -85,7 +82,10 @@ fn is_forbidden(
         Command::Write { cell: _, value } => {
             let kind = x.kind;
             let is_counted = drive::counted_at(image, cells, i);
-            !is_data(role) | (kind == LIFE_CYCLE) | is_counted | (!wide & (0x1_0000_0000 <= value))
+            !is_data(role)
+                | (kind == map::LIFE_CYCLE)
+                | is_counted
+                | (!wide & (0x1_0000_0000 <= value))
         }
         Command::Zeroize { cell: _ } => !map::is_zeroizable(x),
     }
@@ -153,7 +153,7 @@ fn burn(command: Command, cells: &mut [u32], marks: &[u32], wide: bool)
             marks,
             cell as usize,
             wide,
-            0xFFFF_FFFF_FFFF_FFFF,
+            fuse::ALL_ONES,
         ),
     }
 }

@@ -14,6 +14,7 @@ use Rattle.partition.specs.declared.Survey.{Survey}
 use Rattle.partition.specs.Partition.{counted, surveyOf}
 use Rattle.cache.specs.Cache.{Cache, hasPlace}
 use Rattle.cache.specs.declared.Sought.the-variants.{Held}
+use Rattle.drive.specs.declared.Terms.{Terms}
 use Rattle.drive.specs.declared.Check.{Check}
 use Rattle.drive.specs.declared.Check.the-variants.{Ready, Refused}
 use Rattle.drive.specs.declared.Surveyed.{Surveyed}
@@ -50,6 +51,10 @@ pub record Whole (image cells : List ℕ) : Type 0 where
 -- "A partition's cells are handed on as a part of the array that starts where the partition starts"
 abbrev pub cellsOf : (image cells : List ℕ) (i : ℕ) → List ℕ
 cellsOf image cells i = take (entryOf image i .n) (drop (entryOf image i .first) cells)
+
+-- what its pairs are judged by: the map's bound, and whether the partition is zeroizable
+abbrev pub termsOf : (image : List ℕ) (i : ℕ) → Terms
+termsOf image i = record { bound = headerOf image .bound; zeroizable = zeroizable (entryOf image i) }
 
 -- the state and the short pairs of partition i
 unfoldable pub surveyAt : (image cells : List ℕ) (i : ℕ) → Survey

@@ -21,10 +21,11 @@ use Rattle.partition.specs.Partition.{pairs, shortAt, counted, surveyOf}
 use Rattle.partition.specs.declared.State.the-variants.{Erased, Torn, Blank, Programmed}
 use Rattle.cache.specs.Cache.{Cache, hasPlace}
 use Rattle.cache.specs.declared.Sought.the-variants.{Held}
+use Rattle.drive.specs.declared.Terms.{Terms}
 use Rattle.drive.specs.declared.Check.the-variants.{Ready, Refused}
 use Rattle.drive.specs.declared.ActiveSlot.{ActiveSlot}
 use Rattle.drive.specs.declared.ActiveSlot.the-variants.{Programmed as ProgrammedSlot, Absent}
-use Rattle.drive.specs.Drive.{Whole, wholeArrays, driveTests, checkOf, cellsOf, surveyAt, countedAt, slotIn, slotAt, present, available, openSlot, activePlace, activeSlot, slotInUse}
+use Rattle.drive.specs.Drive.{Whole, wholeArrays, driveTests, checkOf, cellsOf, termsOf, surveyAt, countedAt, slotIn, slotAt, present, available, openSlot, activePlace, activeSlot, slotInUse}
 
 -- ---- the check
 
@@ -98,12 +99,12 @@ module _ (image cells : List ℕ) where
 pub part-is : (image cells : List ℕ) (i : ℕ) (x : Entry) → x ≡ entryOf image i → take (x .first + x .n - x .first) (drop (x .first) cells) ≡ cellsOf image cells i
 part-is image cells i x e = let n : x .first + x .n - x .first ≡ x .n = omega arith in rw (n, e)
 
-module _ (image cells : List ℕ) (i : ℕ) (header : Header) (x : Entry) (part : List ℕ) (may : Bool) (h : header ≡ headerOf image) (e : x ≡ entryOf image i) (p : part ≡ cellsOf image cells i) (z : may ≡ zeroizable x) where
-  pub survey-is : (r : Survey) → r ≡ surveyOf may (header .bound) part → r ≡ surveyAt image cells i
+module _ (image cells : List ℕ) (i : ℕ) (terms : Terms) (part : List ℕ) (t : terms ≡ termsOf image i) (p : part ≡ cellsOf image cells i) where
+  pub survey-is : (r : Survey) → r ≡ surveyOf (terms .zeroizable) (terms .bound) part → r ≡ surveyAt image cells i
   unfolding surveyAt
   survey-is r q = cc
 
-  pub counted-here : (r : Bool) → r ≡ counted may (header .bound) part → r ≡ countedAt image cells i
+  pub counted-here : (r : Bool) → r ≡ counted (terms .zeroizable) (terms .bound) part → r ≡ countedAt image cells i
   unfolding countedAt
   counted-here r q = cc
 

@@ -11,7 +11,7 @@ ghost use mathlib.Core.Path.{_≡_};
 ghost use Prim.Native.Nat.{_<_};
 ghost use Rattle.map.specs.Map.{headerOf};
 ghost use Rattle.cache.specs.Cache.{cacheOf};
-ghost use Rattle.drive.specs.Drive.{Whole, checkOf, cellsOf, surveyAt, countedAt, surveyedOf, slotAt, present, slotNumber, available, activeSlot, slotAnswerOf, slotInUse};
+ghost use Rattle.drive.specs.Drive.{Whole, checkOf, cellsOf, termsOf, surveyAt, countedAt, surveyedOf, slotAt, present, slotNumber, available, activeSlot, slotAnswerOf, slotInUse};
 
 // Refusal 1 or 2, or the header of a good map whose arrays have its length.
 pub enum Check {
@@ -66,18 +66,31 @@ pub fn part_of<'a>(image: &[u8], cells: &'a [u32], i: u32) -> &'a [u32]
     &cells[first..first + (x.n as usize)]
 }
 
+// What the pairs of a partition are judged by.
+struct Terms {
+    bound: u64,
+    zeroizable: bool,
+}
+
+// The bound, and whether partition `i` can be zeroized.
+fn terms_of(image: &[u8], i: u32) -> Terms
+    ensures { λ r. ⌜ r ≡ termsOf (now (image .entry)) i ⌝ }
+{
+    let header = map::read_header(image);
+    let zeroizable = map::is_zeroizable(map::read_entry(image, i));
+    Terms {
+        bound: header.bound as u64,
+        zeroizable: zeroizable,
+    }
+}
+
 // The state and short pairs of partition `i` of a drive that was judged.
 pub fn survey_at(image: &[u8], cells: &[u32], i: u32) -> Survey
     requires { ⌜ Whole (now image) (now cells) × (i < headerOf (now image) .partitions) ⌝ }
     ensures { λ r. ⌜ r ≡ surveyAt (now (image .entry)) (now (cells .entry)) i ⌝ }
 {
-    let header = map::read_header(image);
-    let x = map::read_entry(image, i);
-    partition::survey_cells(
-        part_of(image, cells, i),
-        header.bound as u64,
-        map::is_zeroizable(x),
-    )
+    let terms = terms_of(image, i);
+    partition::survey_cells(part_of(image, cells, i), terms.bound, terms.zeroizable)
 }
 
 // Whether partition `i` of a drive that was judged is counted as zeroized.
@@ -85,13 +98,8 @@ pub fn counted_at(image: &[u8], cells: &[u32], i: u32) -> bool
     requires { ⌜ Whole (now image) (now cells) × (i < headerOf (now image) .partitions) ⌝ }
     ensures { λ r. ⌜ r ≡ countedAt (now (image .entry)) (now (cells .entry)) i ⌝ }
 {
-    let header = map::read_header(image);
-    let x = map::read_entry(image, i);
-    partition::is_counted(
-        part_of(image, cells, i),
-        header.bound as u64,
-        map::is_zeroizable(x),
-    )
+    let terms = terms_of(image, i);
+    partition::is_counted(part_of(image, cells, i), terms.bound, terms.zeroizable)
 }
 
 // The state and short pairs of a partition: refusals 1, 2 and 7.

@@ -40,6 +40,10 @@ abbrev pub cellsIn : (wide : Bool) → ℕ
 cellsIn true = 2
 cellsIn false = 1
 
+-- "all ones": what ZEROIZE, and every whole burn of an erasure, burns into a word
+abbrev pub allOnes : ℕ
+allOnes = 2 ^ 64 - 1
+
 -- a burn of the 64-bit value v into the word that starts at k: its low 32 bits into the first cell and, of a pair, its high 32 bits into the next
 unfoldable pub burnWord : (marks : List ℕ) (k : ℕ) (wide : Bool) (v : ℕ) (cells : List ℕ) → List ℕ
 burnWord marks k true v cells = burnCell marks (k + 1) (v / 2 ^ 32) (burnCell marks k (v % 2 ^ 32) cells)

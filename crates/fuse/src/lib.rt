@@ -6,6 +6,9 @@ ghost use Prim.Native.Nat.{_+_, _<_, _≤_};
 ghost use lib.ListN.{length};
 ghost use Rattle.fuse.specs.Fuse.{burn, pairOf, onesOf, short, cellsIn, burnCell, burnWord};
 
+// What ZEROIZE and every whole burn of an erasure burn into a word.
+pub const ALL_ONES: u64 = 0xFFFF_FFFF_FFFF_FFFF;
+
 // What a burn of `value` leaves in a cell whose stuck fuses are marked in `stuck`.
 pub fn burned(cell: u32, value: u32, stuck: u32) -> u32
     ensures { λ r. ⌜ r ≡ burn cell value stuck ⌝ }

@@ -13,10 +13,10 @@ use Rattle.laws.specs.Tests.{cond-keeps, lt-or-le}
 use Rattle.laws.specs.Refusals.{lowest-elim, testAt, Applies, not-applies}
 use Rattle.map.specs.Map.{headerOf, entryOf, endOf, software, zeroizable, mapGood}
 use Rattle.map.specs.Laws.{map-entry}
-use Rattle.fuse.specs.Fuse.{short, free, burnWord}
+use Rattle.fuse.specs.Fuse.{short, free, allOnes, burnWord}
 use Rattle.burns.specs.declared.End.{End}
 use Rattle.burns.specs.declared.End.the-variants.{Whole, Stopped, Cut as CutEnd}
-use Rattle.burns.specs.Run.{Tally, run, goesOn, allOnes}
+use Rattle.burns.specs.Run.{Tally, run, goesOn}
 use Rattle.burns.specs.Cells.{burn-before, burn-fills}
 use Rattle.burns.specs.Safe.{on-counted, run-stopped}
 use Rattle.word.specs.declared.Lookup.{Lookup}

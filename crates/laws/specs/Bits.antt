@@ -7,7 +7,7 @@ use native.Mathlib.Nat.{mod-eq-of-lt}
 use native.Mathlib.Numerals.{one-add}
 use lib.Arith.{half-le}
 use lib.Pow.{shr-shr}
-use lib.Bits.{bitAnd, bitOr, bitXor, differ, and-step, or-step, xor-step, or-shr, and-shr, xor-shr, and-comm, and-mask, and-le-r, xor-add-and, or-add-and}
+use lib.Bits.{bitAnd, bitOr, bitXor, differ, and-step, or-step, xor-step, or-shr, and-shr, xor-shr, and-comm, and-mask, xor-add-and}
 
 -- ---- a number by its digits: what digit i of n is, and two numbers with the same digits are equal
 
@@ -92,9 +92,6 @@ sub-and-l x y = digitwise (λ i. simp bit-and (omega arith))
 
 pub sub-and-r : (x y : ℕ) → bitAnd x y ⊆ y
 sub-and-r x y = digitwise (λ i. simp bit-and (omega arith))
-
-pub sub-le : {x y : ℕ} → x ⊆ y → x ≤ y
-sub-le {x} {y} p = omega (arith, or-add-and x y, p .within, and-le-r x y)
 
 -- ---- all ones of a width, and the complement in them
 

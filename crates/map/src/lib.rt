@@ -28,8 +28,8 @@ const HARDWARE: u8 = 0;
 
 const SOFTWARE: u8 = 1;
 
-// The kind that is never zeroizable.
-const LIFE_CYCLE: u8 = 2;
+// The kind that is never zeroizable and that no WRITE changes.
+pub const LIFE_CYCLE: u8 = 2;
 
 // The header of an image.
 pub fn read_header(image: &[u8]) -> Header

@@ -1,40 +1,21 @@
--- `drive::survey_at` meets its contract: at the fields that were read. Assumes nothing.
-use borrow.Author.Needs.{needs}
+-- `drive::survey_at` meets its contract: at the terms and the part that were read. Assumes nothing.
 use Rattle.drive.specs.Laws.{survey-is}
+use borrow.Author.Needs.{needs}
 use Rattle.drive.proofs.survey_at.Statement.{statement}
 use Rattle.drive.proofs.survey_at.Tie as tie
 
-read-header-requires : tie.Need-read-header-requires
-read-header-requires c κs = search needs
-
-read-entry-requires : tie.Need-read-entry-requires
-read-entry-requires c κs = search needs
+terms-of-requires : tie.Need-terms-of-requires
+terms-of-requires c κs = search needs
 
 part-of-requires : tie.Need-part-of-requires
 part-of-requires c κs = search needs
-
-cast-survey-cells : tie.Need-cast-survey-cells
-cast-survey-cells c = search needs
-
-is-zeroizable-requires : tie.Need-is-zeroizable-requires
-is-zeroizable-requires c κs = search needs
 
 survey-cells-requires : tie.Need-survey-cells-requires
 survey-cells-requires c κs = search needs
 
 returns : tie.Need-returns
-returns c =
-    let part = c .before .before .before in
-    survey-is _ _ _ _ _ _ _ (part .before .before .read-header .ensures) (part .before .read-entry .ensures) (part .part-of .ensures) (c .before .is-zeroizable .ensures) _ (c .survey-cells .ensures)
+returns c = survey-is _ _ _ _ _ (c .before .before .terms-of .ensures) (c .before .part-of .ensures) _ (c .survey-cells .ensures)
 
 pub survey-at-spec : {M : Type 1} → statement M
 survey-at-spec =
-    tie.close
-    (tie.spec
-    read-header-requires
-    read-entry-requires
-    part-of-requires
-    cast-survey-cells
-    is-zeroizable-requires
-    survey-cells-requires
-    returns)
+    tie.close (tie.spec terms-of-requires part-of-requires survey-cells-requires returns)
