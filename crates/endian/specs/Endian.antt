@@ -56,6 +56,11 @@ stored out at v h =
 pub past-byte : (s : List ℕ) (k : ℕ) → length s ≤ k → byteAt s k ≡ 0
 past-byte s k h = List·getD-eq-default s 0 h
 
+-- where the high byte is past the end the low byte is all
+pub low-u16 : (s : List ℕ) (k : ℕ) → length s ≤ k + 1 → u16At s k ≡ byteAt s k
+unfolding u16At
+low-u16 s k h = omega (arith, past-byte s (k + 1) h)
+
 pub past-u16 : (s : List ℕ) (k : ℕ) → length s ≤ k → u16At s k ≡ 0
 unfolding u16At
 past-u16 s k h = omega (arith, past-byte s k h, past-byte s (k + 1) (omega arith))

@@ -2,7 +2,7 @@
 // that each reader answers for every slice and place; the writer asks for room. The definitions are
 // in `specs/Endian`. It rests on `laws` alone.
 ghost use mathlib.Core.Path.{_≡_};
-ghost use Prim.Native.Nat.{_+_, _≤_};
+ghost use Prim.Native.Nat.{_+_, _≤_, _<_};
 ghost use lib.ListN.{length};
 ghost use Rattle.laws.specs.Put.{Put};
 ghost use Rattle.endian.specs.Endian.{byteAt, u16At, u32At, bytes4};
@@ -14,16 +14,24 @@ pub fn byte_at(bytes: &[u8], k: usize) -> u8
     if k < bytes.len() { bytes[k] } else { 0 }
 }
 
-// The u16 whose low byte is at `k`.
+// A byte as a u16.
+fn wide(x: u8) -> u16
+    ensures { λ r. ⌜ (r ≡ x) × (r < 256) ⌝ }
+{
+    x as u16
+}
+
+// The u16 whose low byte is at `k`. Where both bytes are there they are read without a further test.
 pub fn u16_at(bytes: &[u8], k: usize) -> u16
     ensures { λ r. ⌜ r ≡ u16At (now (bytes .entry)) k ⌝ }
 {
-    if bytes.len() <= k {
-        return 0;
+    if bytes.len() < 2 {
+        return wide(byte_at(bytes, k));
     }
-    let low = byte_at(bytes, k);
-    let high = byte_at(bytes, k + 1);
-    (low as u16) + 256 * (high as u16)
+    if bytes.len() - 2 < k {
+        return wide(byte_at(bytes, k));
+    }
+    wide(bytes[k]) + 256 * wide(bytes[k + 1])
 }
 
 // The u32 whose lowest byte is at `k`.

@@ -15,7 +15,8 @@ use Rattle.map.specs.Map.{headerOf, entryOf, software, zeroizable}
 use Rattle.map.specs.Laws.{map-header, map-entry}
 use Rattle.partition.specs.declared.Lowest.{Lowest}
 use Rattle.partition.specs.declared.Lowest.the-variants.{Cell, Nothing}
-use Rattle.partition.specs.Partition.{pairs, shortAt, shortPairs, lowestShort}
+use Rattle.partition.specs.declared.Shorts.{Shorts}
+use Rattle.partition.specs.Partition.{pairs, shortAt, shortPairs, lowestShort, shortsOf}
 use Rattle.partition.specs.Laws.{lowest-tells}
 use Rattle.burns.specs.declared.End.{End}
 use Rattle.burns.specs.declared.End.the-variants.{Whole}
@@ -72,11 +73,12 @@ module _ (image cells : List ℕ) (i : ℕ) (whole : WholeDrive image cells) (l 
       omega (arith, at .cell, at .within, part-long, part-end, whole .long, map-header image (whole .good) .cells-most)
   first-fits bound Nothing e = omega arith
 
-  pub first-short-fits : (bound : ℕ) {x : Entry} {part : List ℕ} {lowest : Lowest} → x ≡ entryOf image i → part ≡ cellsOf image cells i → lowest ≡ lowestShort bound part → firstShort (x .first) lowest < 2 ^ 32
-  first-short-fits bound {x} {part} {lowest} e p q = rw e (first-fits bound lowest (q ∙ ap (lowestShort bound) p))
+  module _ (bound : ℕ) {part : List ℕ} {shorts : Shorts} (p : part ≡ cellsOf image cells i) (q : shorts ≡ shortsOf bound part) where
+    pub count-fits : shorts .count < 2 ^ 32
+    count-fits = rw (q, p) (shorts-fit bound)
 
-  pub shorts-read : (bound : ℕ) {part : List ℕ} {short : ℕ} → part ≡ cellsOf image cells i → short ≡ shortPairs bound part → short < 2 ^ 32
-  shorts-read bound p q = rw (q, p) (shorts-fit bound)
+    pub first-short-fits : {x : Entry} → x ≡ entryOf image i → firstShort (x .first) (shorts .lowest) < 2 ^ 32
+    first-short-fits e = rw e (first-fits bound (shorts .lowest) (ap (λ (s : Shorts). s .lowest) q ∙ ap (lowestShort bound) p))
 
 module _ (image cells marks : List ℕ) (i : ℕ) (ok : Erasable image cells marks i) {x : Entry} (e : x ≡ entryOf image i) where
   pub cells-end : x .first + x .n ≤ length cells
@@ -111,10 +113,10 @@ module _ (image cells marks : List ℕ) (i : ℕ) (ok : Erasable image cells mar
 
 -- ---- the answer, at the values that were read
 
-pub erased-is : (image cells : List ℕ) (i burns : ℕ) {header : Header} {x : Entry} {part : List ℕ} {lowest : Lowest} {short first : ℕ} → header ≡ headerOf image → x ≡ entryOf image i → part ≡ cellsOf image cells i
-    → short ≡ shortPairs (header .bound) part → lowest ≡ lowestShort (header .bound) part → first ≡ firstShort (x .first) lowest
-    → Erased short first burns ≡ answerBy Whole image i (tallyOf cells burns)
-erased-is image cells i burns h e p s q f = rw (s, f, q, p, h, e)
+pub erased-is : (image cells : List ℕ) (i burns : ℕ) {header : Header} {x : Entry} {part : List ℕ} {shorts : Shorts} {first : ℕ} → header ≡ headerOf image → x ≡ entryOf image i → part ≡ cellsOf image cells i
+    → shorts ≡ shortsOf (header .bound) part → first ≡ firstShort (x .first) (shorts .lowest)
+    → Erased (shorts .count) first burns ≡ answerBy Whole image i (tallyOf cells burns)
+erased-is image cells i burns h e p q f = rw (f, q, p, h, e)
 
 -- how a run ended, as the code tells it
 pub ended : (image : List ℕ) (i : ℕ) (t : Tally) {end told : End} {answer : Answer} → end ≡ told → answer ≡ answerBy told image i t → answer ≡ answerBy end image i t

@@ -91,10 +91,11 @@ fn answer_of(image: &[u8], cells: &[u32], i: u32, report: Report) -> Answer
             let header = map::read_header(image);
             let x = map::read_entry(image, i);
             let part = drive::part_of(image, cells, i);
-            let bound = header.bound as u64;
+            let shorts = partition::shorts_of(part, header.bound as u64);
+            let lowest = shorts.lowest;
             Answer::Erased {
-                short: partition::short_pairs(part, bound) as u32,
-                first: first_short(x.first, partition::lowest_short(part, bound)),
+                short: shorts.count as u32,
+                first: first_short(x.first, lowest),
                 burns: burns,
             }
         }

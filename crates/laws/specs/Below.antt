@@ -45,9 +45,12 @@ joinBelow f (suc n) = joinBelow f n ++ f n
 
 -- ---- all
 
-pub all-step : (f : ℕ → Bool) (n : ℕ) → allBelow f n ≡ true → f n ≡ true → allBelow f (n + 1) ≡ true
+pub all-next : (f : ℕ → Bool) (n : ℕ) → allBelow f (n + 1) ≡ (allBelow f n && f n)
 unfolding allBelow
-all-step f n g h = rw (add-one, g) h
+all-next f n = rw add-one
+
+pub all-step : (f : ℕ → Bool) (n : ℕ) → allBelow f n ≡ true → f n ≡ true → allBelow f (n + 1) ≡ true
+all-step f n g h = rw (all-next f n, g) h
 
 pub all-at : (f : ℕ → Bool) (n : ℕ) → allBelow f n ≡ true → (k : ℕ) → k < n → f k ≡ true
 unfolding allBelow

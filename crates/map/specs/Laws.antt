@@ -3,35 +3,39 @@
 use Prim.Native.Nat.{ℕ, zero, suc, _+_, _-_, _*_, _%_, _≤_, _<_}
 use mathlib.Core.Path.{_≡_}
 use mathlib.Core.Logic.{⊎-elim}
-use mathlib.Core.Bool.{Bool, true, false, or-true, and-false}
+use mathlib.Core.Bool.{Bool, true, false, and-false}
 use mathlib.Core.List.{List}
 use native.Mathlib.Omega.{arith}
+use native.Mathlib.Numerals.{add-one}
 use native.Mathlib.Nat.{not-suc-le-zero, eq-or-lt-of-le, le-of-suc-le-suc}
 use lib.ListN.{length}
-use lib.Dec.{ltb}
+use lib.Dec.{eqb}
 use borrow.Author.Tests.{leb-true, eqb-true, le-ltb, ne-eqb}
 use Rattle.laws.specs.Tests.{and, implies, not-both, every-at}
 use Rattle.laws.specs.Below.{allBelow, all-at}
 use Rattle.endian.specs.Endian.{byteAt, u16At}
 use Rattle.map.specs.declared.Header.{Header}
 use Rattle.map.specs.declared.Entry.{Entry}
-use Rattle.map.specs.Map.{headerOf, entryPlace, entryOf, endOf, hardware, lifeCycle, zeroizable, secret, slot, headerGood, fillerGood, entryGood, endBefore, placeGood, mapGood}
+use Rattle.map.specs.Map.{headerOf, entryPlace, entryAt, entryOf, endOf, hardware, lifeCycle, zeroizable, secret, slot, headerGood, fillerGood, entryGood, endBefore, placeGood, mapGood}
 
--- a byte of the filler is good where it is zero, and only there
-pub filler-zero : (s : List ℕ) (k : ℕ) → byteAt s k ≡ 0 → fillerGood s k ≡ true
+-- past the header a byte of the filler is good where it is zero
+pub filler-is : (s : List ℕ) (k : ℕ) → 8 ≤ k → fillerGood s k ≡ eqb (byteAt s k) 0
 unfolding fillerGood
-filler-zero s k z = rw z (or-true (ltb k 8))
+filler-is s k l = simp (le-ltb _ _ l)
 
-pub filler-not : (s : List ℕ) (k : ℕ) → 8 ≤ k → (byteAt s k ≡ 0 → ⊥) → fillerGood s k ≡ false
-unfolding fillerGood
-filler-not s k l n = simp (le-ltb _ _ l, ne-eqb _ _ n)
+-- the entry before the next one is this one
+suc-sub : (k : ℕ) → k + 1 - 1 ≡ k
+suc-sub k = omega arith
 
--- what the code tests of entry i is its rule
-pub place-is : (s : List ℕ) (i before at spare : ℕ) (h : Header) (x : Entry) (b : Bool) → before ≡ endBefore s i → h ≡ headerOf s → x ≡ entryOf s i → at ≡ entryPlace s i → spare ≡ u16At s (at + 6)
-    → b ≡ entryGood before (h .cells) x spare
+pub end-next : (s : List ℕ) (i : ℕ) → endBefore s (i + 1) ≡ endOf (entryOf s i)
+end-next s i = simp (ne-eqb (i + 1) 0 (λ e. omega arith), suc-sub i)
+
+-- what the code tests at byte `at` is the rule of the entry that starts there
+pub place-is : (s : List ℕ) (i before cells at : ℕ) (b : Bool) → before ≡ endBefore s i → cells ≡ headerOf s .cells → at ≡ entryPlace s i
+    → b ≡ entryGood before cells (entryAt s at) (u16At s (at + 6))
     → b ≡ placeGood s i
 unfolding placeGood
-place-is s i before at spare h x b p q r t u v = cc
+place-is s i before cells at b p q t v = rw (v, p, q, t)
 
 -- the whole check, at the header h that was read
 module _ (s : List ℕ) (h : Header) (e : h ≡ headerOf s) where
@@ -122,13 +126,13 @@ unfolding placeGood
 map-entry s g i l = entry-rules _ _ _ _ (all-at (placeGood s) _ (map-parts s g .1) i l)
 
 -- entries ascend without overlap: one partition ends before any later one starts
+after-next : (s : List ℕ) → mapGood s ≡ true → (j : ℕ) → j + 1 < headerOf s .partitions → endOf (entryOf s j) ≤ entryOf s (j + 1) .first
+after-next s g j l = rw (end-next s j) at (map-entry s g (j + 1) l .after)
+
 pub map-order : (s : List ℕ) → mapGood s ≡ true → (i j : ℕ) → i < j → j < headerOf s .partitions → endOf (entryOf s i) ≤ entryOf s j .first
 map-order s g i zero l lp = absurd (not-suc-le-zero l)
 map-order s g i (suc j) l lp =
-    let a : endOf (entryOf s j) ≤ entryOf s (suc j) .first = rw (ne-eqb (suc j) 0 (λ e. omega arith), suc-sub j) at (map-entry s g (suc j) lp .after) in
+    let a : endOf (entryOf s j) ≤ entryOf s (suc j) .first = rw (add-one j) at (after-next s g j (omega arith)) in
     ⊎-elim (λ (e : i ≡ j). rw e a)
     (λ (h : i < j). let b = map-order s g i j h (omega arith) in omega arith)
     (eq-or-lt-of-le (le-of-suc-le-suc l))
-  where
-    suc-sub : (k : ℕ) → suc k - 1 ≡ k
-    suc-sub k = omega arith

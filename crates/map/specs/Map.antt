@@ -20,13 +20,12 @@ abbrev pub entryPlace : (image : List ℕ) (i : ℕ) → ℕ
 entryPlace s i = headerOf s .offset + 8 * i
 
 -- "Entry, 8 bytes: u16 first cell, u16 cells n, u8 kind, u8 flags, two zero bytes"
+abbrev pub entryAt : (image : List ℕ) (at : ℕ) → Entry
+entryAt s at = record { first = u16At s at; n = u16At s (at + 2); kind = byteAt s (at + 4); flags = byteAt s (at + 5) }
+
+-- entry i
 abbrev pub entryOf : (image : List ℕ) (i : ℕ) → Entry
-entryOf s i = record {
-  first = u16At s (entryPlace s i);
-  n = u16At s (entryPlace s i + 2);
-  kind = byteAt s (entryPlace s i + 4);
-  flags = byteAt s (entryPlace s i + 5);
-}
+entryOf s i = entryAt s (entryPlace s i)
 
 -- the cell past the partition's last
 abbrev pub endOf : Entry → ℕ

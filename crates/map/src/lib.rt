@@ -4,8 +4,10 @@
 // and `laws`.
 ghost use mathlib.Core.Path.{_≡_};
 ghost use Prim.Native.Nat.{_+_, _*_, _^_, _<_, _≤_};
+ghost use lib.ListN.{length};
 ghost use Rattle.laws.specs.Below.{allBelow};
-ghost use Rattle.map.specs.Map.{headerOf, entryOf, endOf, software, zeroizable, secret, slot, headerGood, fillerGood, entryGood, endBefore, placeGood, mapGood};
+ghost use Rattle.endian.specs.Endian.{u16At};
+ghost use Rattle.map.specs.Map.{headerOf, entryAt, entryOf, endOf, software, zeroizable, secret, slot, headerGood, fillerGood, entryGood, placeGood, mapGood};
 
 // The four numbers at the start of an image.
 pub struct Header {
@@ -51,17 +53,24 @@ fn entry_place(image: &[u8], i: u32) -> usize
     (offset as usize) + 8 * (i as usize)
 }
 
-// Entry `i` of an image.
-pub fn read_entry(image: &[u8], i: u32) -> Entry
-    ensures { λ r. ⌜ r ≡ entryOf (now (image .entry)) i ⌝ }
+// The entry that starts at byte `at` of an image.
+fn entry_at(image: &[u8], at: usize) -> Entry
+    requires { ⌜ at < 2 ^ 36 ⌝ }
+    ensures { λ r. ⌜ r ≡ entryAt (now (image .entry)) at ⌝ }
 {
-    let at = entry_place(image, i);
     Entry {
         first: endian::u16_at(image, at),
         n: endian::u16_at(image, at + 2),
         kind: endian::byte_at(image, at + 4),
         flags: endian::byte_at(image, at + 5),
     }
+}
+
+// Entry `i` of an image.
+pub fn read_entry(image: &[u8], i: u32) -> Entry
+    ensures { λ r. ⌜ r ≡ entryOf (now (image .entry)) i ⌝ }
+{
+    entry_at(image, entry_place(image, i))
 }
 
 // The cell past a partition's last.
@@ -114,19 +123,19 @@ fn header_good(h: Header, len: usize) -> bool
         & (len == (h.offset as usize) + 8 * (h.partitions as usize))
 }
 
-// Whether bytes 8 up to `offset` are zero.
+// Whether bytes 8 up to `offset` are zero. It looks at all of them, many at a time, which takes less
+// time than to stop at the first that is not.
 fn filler_good(image: &[u8], offset: usize) -> bool
-    requires { ⌜ 8 ≤ offset ⌝ }
+    requires { ⌜ (8 ≤ offset) × (offset ≤ length (now image)) ⌝ }
     ensures { λ r. ⌜ r ≡ allBelow (fillerGood (now (image .entry))) offset ⌝ }
 {
+    let mut good = true;
     let mut k: usize = 8;
     while k < offset {
-        if endian::byte_at(image, k) != 0 {
-            return false;
-        }
+        good = good & (image[k] == 0);
         k += 1;
     }
-    true
+    good
 }
 
 // Whether an entry keeps its rules, where the one before it ends at `before`, the array has `cells`
@@ -152,37 +161,32 @@ fn entry_good(before: usize, cells: u16, x: Entry, spare: u16) -> bool
         & (!slot | zeroizable & secret)
 }
 
-// Where the entry before entry `i` ends, 0 before the first.
-fn end_before(image: &[u8], i: u32) -> usize
-    ensures { λ r. ⌜ r ≡ endBefore (now (image .entry)) i ⌝ }
+// Whether the entry that starts at byte `at` keeps its rules, where the one before it ends at `before`
+// and the array has `cells` cells.
+fn place_good(image: &[u8], at: usize, before: usize, cells: u16) -> bool
+    requires { ⌜ at < 2 ^ 36 ⌝ }
+    ensures { λ r. ⌜ r ≡ entryGood before cells (entryAt (now (image .entry)) at) (u16At (now (image .entry)) (at + 6)) ⌝ }
 {
-    if i == 0 {
-        return 0;
-    }
-    end_of(read_entry(image, i - 1))
-}
-
-// Whether entry `i` of an image keeps its rules.
-fn place_good(image: &[u8], i: u32) -> bool
-    ensures { λ r. ⌜ r ≡ placeGood (now (image .entry)) i ⌝ }
-{
-    let before = end_before(image, i);
-    let h = read_header(image);
-    let x = read_entry(image, i);
-    let at = entry_place(image, i);
+    let x = entry_at(image, at);
     let spare = endian::u16_at(image, at + 6);
-    entry_good(before, h.cells, x, spare)
+    entry_good(before, cells, x, spare)
 }
 
-// Whether the first `partitions` entries keep their rules.
-fn entries_good(image: &[u8], partitions: u16) -> bool
-    ensures { λ r. ⌜ r ≡ allBelow (placeGood (now (image .entry))) partitions ⌝ }
+// Whether the entries of an image with this header keep their rules.
+fn entries_good(image: &[u8], h: Header) -> bool
+    requires { ⌜ h ≡ headerOf (now image) ⌝ }
+    ensures { λ r. ⌜ r ≡ allBelow (placeGood (now (image .entry))) (h .partitions) ⌝ }
 {
+    let partitions = h.partitions as u32;
+    let mut at = h.offset as usize;
+    let mut end: usize = 0;
     let mut i: u32 = 0;
-    while i < (partitions as u32) {
-        if !place_good(image, i) {
+    while i < partitions {
+        if !place_good(image, at, end, h.cells) {
             return false;
         }
+        end = end_of(entry_at(image, at));
+        at += 8;
         i += 1;
     }
     true
@@ -199,5 +203,5 @@ pub fn is_good(image: &[u8]) -> bool
     if !filler_good(image, h.offset as usize) {
         return false;
     }
-    entries_good(image, h.partitions)
+    entries_good(image, h)
 }

@@ -2,8 +2,8 @@
 -- Assumes nothing.
 use Prim.Native.Nat.{ℕ, _-_, _*_, _≤_, _<_}
 use mathlib.Core.Logic.{⊎-elim}
-use mathlib.Core.Path.{_≡_, refl, subst}
-use mathlib.Core.Bool.{Bool, true, false, cond}
+use mathlib.Core.Path.{_≡_, refl, sym, subst, _∙_}
+use mathlib.Core.Bool.{Bool, true, false, cond, false≢true}
 use mathlib.Core.List.{List}
 use native.Mathlib.Omega.{arith}
 use lib.ListN.{getD}
@@ -118,6 +118,16 @@ module _ (bound : ℕ) (part : List ℕ) where
       (λ (l : ltb j (pairs part) ≡ false).
       let n : pairs part ≤ j = ltb-false j (pairs part) l in
       absurd (some (none-count (shortAt bound part) (pairs part) (λ k a. w .before k (omega arith) (omega arith)))))
+      (decided (ltb j (pairs part)))
+
+  -- and none where none is
+  pub no-lowest : shortPairs bound part ≡ 0 → Nothing ≡ lowestShort bound part
+  no-lowest none =
+      let j = lowestPair bound part in
+      let w : First (shortAt bound part) 0 (pairs part) j = first-tells (shortAt bound part) 0 (pairs part) in
+      ⊎-elim
+      (λ (l : ltb j (pairs part) ≡ true). let i = ltb-true j (pairs part) l in absurd (false≢true (sym (count-none (shortAt bound part) (pairs part) none j i) ∙ w .at (omega arith))))
+      (λ (l : ltb j (pairs part) ≡ false). lowest-none bound part (omega (arith, w .most, ltb-false j (pairs part) l)))
       (decided (ltb j (pairs part)))
 
 -- the answer Cell k is pair j, which is short, and none before it is

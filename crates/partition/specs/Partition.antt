@@ -6,6 +6,7 @@ use lib.ListN.{length, getD}
 use lib.Dec.{eqb, leb, ltb}
 use Rattle.laws.specs.Below.{allBelow, countBelow, firstBelow}
 use Rattle.fuse.specs.Fuse.{pairOf, short}
+use Rattle.partition.specs.declared.Shorts.{Shorts}
 use Rattle.partition.specs.declared.Lowest.{Lowest}
 use Rattle.partition.specs.declared.Lowest.the-variants.{Cell, Nothing}
 use Rattle.partition.specs.declared.State.{State}
@@ -35,6 +36,10 @@ lowestPair bound part = firstBelow (shortAt bound part) (pairs part)
 -- the first cell of the lowest short pair, or none
 unfoldable pub lowestShort : (bound : ℕ) (part : List ℕ) → Lowest
 lowestShort bound part = cond (ltb (lowestPair bound part) (pairs part)) (Cell (2 * lowestPair bound part)) Nothing
+
+-- how many pairs are short, and the lowest of them
+abbrev pub shortsOf : (bound : ℕ) (part : List ℕ) → Shorts
+shortsOf bound part = record { count = shortPairs bound part; lowest = lowestShort bound part }
 
 -- "A partition is counted as zeroized when it is zeroizable and its indicator is not short"; the indicator is the last pair
 unfoldable pub counted : (zeroizable : Bool) (bound : ℕ) (part : List ℕ) → Bool

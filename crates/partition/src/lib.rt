@@ -5,12 +5,18 @@
 ghost use mathlib.Core.Path.{_≡_};
 ghost use Prim.Native.Nat.{_+_, _*_, _<_, _≤_};
 ghost use lib.ListN.{length};
-ghost use Rattle.partition.specs.Partition.{shortAt, shortPairs, lowestShort, counted, tail, noData, surveyOf};
+ghost use Rattle.partition.specs.Partition.{shortAt, shortPairs, lowestShort, shortsOf, counted, tail, noData, surveyOf};
 
 // The first cell of the lowest short pair, counted from the partition's start.
 pub enum Lowest {
     Cell(usize),
     Nothing,
+}
+
+// How many pairs are short, and the lowest of them.
+pub struct Shorts {
+    pub count: usize,
+    pub lowest: Lowest,
 }
 
 // What a partition's fuses say.
@@ -36,7 +42,7 @@ fn short_at(part: &[u32], j: usize, bound: u64) -> bool
 }
 
 // The number of short pairs.
-pub fn short_pairs(part: &[u32], bound: u64) -> usize
+fn short_pairs(part: &[u32], bound: u64) -> usize
     ensures { λ r. ⌜ r ≡ shortPairs bound (now (part .entry)) ⌝ }
 {
     let pairs = part.len() / 2;
@@ -52,7 +58,7 @@ pub fn short_pairs(part: &[u32], bound: u64) -> usize
 }
 
 // The lowest short pair.
-pub fn lowest_short(part: &[u32], bound: u64) -> Lowest
+fn lowest_short(part: &[u32], bound: u64) -> Lowest
     ensures { λ r. ⌜ r ≡ lowestShort bound (now (part .entry)) ⌝ }
 {
     let end = part.len() / 2;
@@ -64,6 +70,23 @@ pub fn lowest_short(part: &[u32], bound: u64) -> Lowest
         j += 1;
     }
     Lowest::Nothing
+}
+
+// How many pairs are short, and which is the lowest, which is looked for only where there is one.
+pub fn shorts_of(part: &[u32], bound: u64) -> Shorts
+    ensures { λ r. ⌜ r ≡ shortsOf bound (now (part .entry)) ⌝ }
+{
+    let count = short_pairs(part, bound);
+    if count == 0 {
+        return Shorts {
+            count: 0,
+            lowest: Lowest::Nothing,
+        };
+    }
+    Shorts {
+        count: count,
+        lowest: lowest_short(part, bound),
+    }
 }
 
 // Whether a partition counts as zeroized: it is zeroizable and its indicator, the last pair, is not

@@ -1,7 +1,7 @@
 -- `erasure::answer_of` meets its contract: by how the run ended; its numbers fit, since the map is good. Assumes nothing.
-use native.Mathlib.Omega.{arith}
 use mathlib.Core.Path.{refl}
-use Rattle.erasure.specs.Laws.{shorts-read, first-short-fits, erased-is, ended}
+use native.Mathlib.Omega.{arith}
+use Rattle.erasure.specs.Laws.{count-fits, first-short-fits, erased-is, ended}
 use borrow.Author.Needs.{needs}
 use Rattle.erasure.proofs.answer_of.Statement.{statement}
 use Rattle.erasure.proofs.answer_of.Tie as tie
@@ -21,20 +21,23 @@ read-entry-requires c κs = search needs
 part-of-requires : tie.Need-part-of-requires
 part-of-requires c κs = search needs
 
-cast-bound : tie.Need-cast-bound
-cast-bound c = search needs
+cast-shorts-of : tie.Need-cast-shorts-of
+cast-shorts-of c = search needs
 
-short-pairs-requires : tie.Need-short-pairs-requires
-short-pairs-requires c κs = search needs
+shorts-of-requires : tie.Need-shorts-of-requires
+shorts-of-requires c κs = search needs
 
-cast-t13 : tie.Need-cast-t13
-cast-t13 c = omega (arith, shorts-read _ _ _ (c .before .before .before .before .before .before .before .before .before .before .pre .0) (c .before .before .before .before .before .before .before .before .before .before .pre .1) _ (c .before .before .part-of .ensures) (c .short-pairs .ensures))
-
-lowest-short-requires : tie.Need-lowest-short-requires
-lowest-short-requires c κs = search needs
+cast-t14 : tie.Need-cast-t14
+cast-t14 c =
+    let part = c .before .before .before in
+    let start = part .before .before .before .before .before .before .before .before in
+    omega (arith, count-fits _ _ _ (start .pre .0) (start .pre .1) _ (part .part-of .ensures) (c .before .shorts-of .ensures))
 
 first-short-requires : tie.Need-first-short-requires
-first-short-requires c κs = first-short-fits _ _ _ (c .before .before .before .before .before .before .before .before .before .before .before .pre .0) (c .before .before .before .before .before .before .before .before .before .before .before .pre .1) _ (c .before .before .before .before .read-entry .ensures) (c .before .before .before .part-of .ensures) (c .lowest-short .ensures)
+first-short-requires c κs =
+    let part = c .before .before .before in
+    let start = part .before .before .before .before .before .before .before .before in
+    first-short-fits _ _ _ (start .pre .0) (start .pre .1) _ (part .part-of .ensures) (c .before .shorts-of .ensures) (part .before .read-entry .ensures)
 
 enum-told-2 : tie.Need-enum-told-2
 enum-told-2 c = search needs
@@ -43,7 +46,10 @@ enum-told-3 : tie.Need-enum-told-3
 enum-told-3 c = search needs
 
 returns : tie.Need-returns
-returns c = ended _ _ _ (c .before .before .before .before .before .before .before .enum-told .given .1) (erased-is _ _ _ _ (c .before .before .before .before .before .before .read-header .ensures) (c .before .before .before .before .before .read-entry .ensures) (c .before .before .before .before .part-of .ensures) (c .before .before .short-pairs .ensures) (c .before .lowest-short .ensures) (c .first-short .ensures))
+returns c =
+    let part = c .before .before .before .before in
+    let x = part .before in
+    ended _ _ _ (x .before .before .enum-told .given .1) (erased-is _ _ _ _ (x .before .read-header .ensures) (x .read-entry .ensures) (part .part-of .ensures) (c .before .before .shorts-of .ensures) (c .first-short .ensures))
 
 returns-2 : tie.Need-returns-2
 returns-2 c = ended _ _ _ (c .enum-told2 .given .1) refl
@@ -60,10 +66,9 @@ answer-of-spec =
     read-header-requires
     read-entry-requires
     part-of-requires
-    cast-bound
-    short-pairs-requires
-    cast-t13
-    lowest-short-requires
+    cast-shorts-of
+    shorts-of-requires
+    cast-t14
     first-short-requires
     enum-told-2
     enum-told-3

@@ -1,30 +1,54 @@
--- `map::entries_good` meets its contract: the loop's invariant: the entries below `i` are good. Assumes nothing.
-use Prim.Native.Nat.{_≤_, _-_}
-use mathlib.Core.Path.{_≡_, refl, sym, _∙_}
+-- `map::entries_good` meets its contract: the loop's invariant: the entries below `i` are good, the last of them ends at `end`, and the next starts at `at`. Assumes nothing.
+use Prim.Native.Nat.{_+_, _*_, _≤_, _-_}
+use mathlib.Core.Path.{_≡_, refl, sym, ap, _∙_}
 use mathlib.Core.Bool.{true}
 use native.Mathlib.Omega.{arith}
 use borrow.Author.Tests.{not-true, not-false}
 use borrow.Author.Needs.{needs}
 use Rattle.laws.specs.Below.{allBelow, all-step, all-fails}
-use Rattle.map.specs.Map.{placeGood}
+use Rattle.map.specs.declared.Header.{Header}
+use Rattle.map.specs.Map.{entryAt, endOf, endBefore, placeGood}
+use Rattle.map.specs.Laws.{end-next, place-is}
 use Rattle.map.proofs.entries_good.Statement.{statement}
 use Rattle.map.proofs.entries_good.Tie as tie
 
 abbrev Inv-loop : tie.InvT-loop
-Inv-loop image partitions i₀ i = (i ≤ partitions) × (allBelow (placeGood image) i ≡ true)
+Inv-loop image h partitions at₀ end₀ i₀ at end i = (i ≤ partitions) × (at ≡ h .offset + 8 * i) × (end ≡ endBefore image i) × (allBelow (placeGood image) i ≡ true)
 
 abbrev μ-loop : tie.MeasureT-loop
-μ-loop image partitions i₀ i = partitions - i
+μ-loop image h partitions at₀ end₀ i₀ at end i = partitions - i
+
+cast-partitions : tie.Need-cast-partitions Inv-loop μ-loop
+cast-partitions c = search needs
+
+cast-at : tie.Need-cast-at Inv-loop μ-loop
+cast-at c = search needs
 
 loop-holds : tie.Need-loop-holds Inv-loop μ-loop
 unfolding allBelow
-loop-holds c = (search needs, refl)
+loop-holds c = (search needs, omega arith, refl, refl)
+
+-- what place_good answers of the entry at `at` is the rule of entry i
+judged : (c : tie.After-place-good Inv-loop μ-loop) → c .place-good .result ≡ placeGood (c .before .before .before .before .before .before .args .image .now) (c .before .before .loop .i)
+judged c =
+    let top = c .before .before in
+    let h = top .before .before .before .before .pre in
+    place-is _ _ _ _ _ _ (top .loop .inv .2) (ap (λ (h : Header). h .cells) h) (top .loop .inv .1 ∙ ap (λ (h : Header). h .offset + 8 * top .loop .i) h) (c .place-good .ensures)
 
 place-good-requires : tie.Need-place-good-requires Inv-loop μ-loop
 place-good-requires c κs = search needs
 
 returns : tie.Need-returns Inv-loop μ-loop
-returns c = sym (all-fails _ _ _ (c .before .before .loop-test .taken) (sym (c .before .place-good .ensures) ∙ not-true _ (c .if1 .taken)))
+returns c = sym (all-fails _ _ _ (c .before .before .loop-test .taken) (sym (judged (c .before)) ∙ not-true _ (c .if1 .taken)))
+
+entry-at-requires : tie.Need-entry-at-requires Inv-loop μ-loop
+entry-at-requires c κs = search needs
+
+end-of-requires : tie.Need-end-of-requires Inv-loop μ-loop
+end-of-requires c κs = search needs
+
+add-at : tie.Need-add-at Inv-loop μ-loop
+add-at c = search needs
 
 add-i : tie.Need-add-i Inv-loop μ-loop
 add-i c = search needs
@@ -33,10 +57,15 @@ loop-less : tie.Need-loop-less Inv-loop μ-loop
 loop-less c = search needs
 
 loop-again : tie.Need-loop-again Inv-loop μ-loop
-loop-again c = (omega arith, all-step _ _ (c .before .before .before .loop .inv .1) (sym (c .before .place-good .ensures) ∙ not-false _ (c .if1 .left)))
+loop-again c =
+    let answered = c .before .before .before in
+    let top = answered .before .before in
+    let h = top .before .before .before .before .pre in
+    let here = top .loop .inv .1 ∙ ap (λ (h : Header). h .offset + 8 * top .loop .i) h in
+    (omega arith, omega (arith, top .loop .inv .1), c .end-of .ensures ∙ ap endOf (c .before .entry-at .ensures ∙ ap (entryAt _) here) ∙ sym (end-next _ _), all-step _ _ (top .loop .inv .3) (sym (judged answered) ∙ not-false _ (c .before .before .if1 .left)))
 
 returns-2 : tie.Need-returns-2 Inv-loop μ-loop
-returns-2 c = let e : c .before .loop .i ≡ c .before .before .before .args .partitions = omega arith in cc
+returns-2 c = let e : c .before .loop .i ≡ c .before .before .before .before .before .args .h .partitions = omega arith in rw (← e) (sym (c .before .loop .inv .3))
 
 pub entries-good-spec : {M : Type 1} → statement M
 entries-good-spec =
@@ -44,9 +73,14 @@ entries-good-spec =
     (tie.spec
     Inv-loop
     μ-loop
+    cast-partitions
+    cast-at
     loop-holds
     place-good-requires
     returns
+    entry-at-requires
+    end-of-requires
+    add-at
     add-i
     loop-less
     loop-again

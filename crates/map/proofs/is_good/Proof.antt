@@ -1,5 +1,6 @@
 -- `map::is_good` meets its contract: header, filler and entries in turn. Assumes nothing.
 use mathlib.Core.Path.{sym, _∙_}
+use native.Mathlib.Omega.{arith}
 use borrow.Author.Tests.{not-true, not-false}
 use borrow.Author.Needs.{needs}
 use Rattle.map.specs.Laws.{header-rules, bad-header, bad-filler, good-so-far}
@@ -21,7 +22,9 @@ cast-filler-good : tie.Need-cast-filler-good
 cast-filler-good c = search needs
 
 filler-good-requires : tie.Need-filler-good-requires
-filler-good-requires c κs = header-rules _ _ (sym (c .before .before .header-good .ensures) ∙ not-false _ (c .before .if1 .left)) .offset-least
+filler-good-requires c κs =
+    let rules = header-rules _ _ (sym (c .before .before .header-good .ensures) ∙ not-false _ (c .before .if1 .left)) in
+    (rules .offset-least, omega (arith, rules .long))
 
 returns-2 : tie.Need-returns-2
 returns-2 c =

@@ -1,4 +1,6 @@
--- `map::read_entry` meets its contract: four fields at the place of entry i. Assumes nothing.
+-- `map::read_entry` meets its contract: the entry at the place of entry i. Assumes nothing.
+use mathlib.Core.Path.{ap, _∙_}
+use Rattle.map.specs.Map.{entryAt}
 use borrow.Author.Needs.{needs}
 use Rattle.map.proofs.read_entry.Statement.{statement}
 use Rattle.map.proofs.read_entry.Tie as tie
@@ -6,40 +8,11 @@ use Rattle.map.proofs.read_entry.Tie as tie
 entry-place-requires : tie.Need-entry-place-requires
 entry-place-requires c κs = search needs
 
-u16-at-requires : tie.Need-u16-at-requires
-u16-at-requires c κs = search needs
-
-add-u16-at : tie.Need-add-u16-at
-add-u16-at c = search needs
-
-u16-at-requires-2 : tie.Need-u16-at-requires-2
-u16-at-requires-2 c κs = search needs
-
-add-byte-at : tie.Need-add-byte-at
-add-byte-at c = search needs
-
-byte-at-requires : tie.Need-byte-at-requires
-byte-at-requires c κs = search needs
-
-add-byte-at-2 : tie.Need-add-byte-at-2
-add-byte-at-2 c = search needs
-
-byte-at-requires-2 : tie.Need-byte-at-requires-2
-byte-at-requires-2 c κs = search needs
+entry-at-requires : tie.Need-entry-at-requires
+entry-at-requires c κs = search needs
 
 returns : tie.Need-returns
-returns c = cc
+returns c = c .entry-at .ensures ∙ ap (entryAt _) (c .before .entry-place .ensures .0)
 
 pub read-entry-spec : {M : Type 1} → statement M
-read-entry-spec =
-    tie.close
-    (tie.spec
-    entry-place-requires
-    u16-at-requires
-    add-u16-at
-    u16-at-requires-2
-    add-byte-at
-    byte-at-requires
-    add-byte-at-2
-    byte-at-requires-2
-    returns)
+read-entry-spec = tie.close (tie.spec entry-place-requires entry-at-requires returns)
