@@ -1,6 +1,6 @@
-//! What the tests share: generated drives, runs of the built programs, and
-//! generated calls of the key block.
-#![forbid(unsafe_code)]
+//! What the tests share: generated drives, runs of the built programs, generated
+//! calls of the key block, and the measure of its stack.
+#![deny(unsafe_code)]
 
 pub mod calls;
 pub mod compare;
@@ -13,10 +13,13 @@ pub mod histories;
 pub mod inputs;
 pub mod layout;
 pub mod maps;
+#[allow(unsafe_code)]
+pub mod painted;
 pub mod random;
 pub mod readings;
 pub mod runner;
 pub mod sights;
 pub mod small;
+pub mod stack;
 pub mod tally;
 pub mod tools;

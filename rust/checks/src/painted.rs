@@ -2,7 +2,6 @@
 //! the lowest byte that has changed says how deep it went.
 
 use std::arch::asm;
-use std::ptr;
 
 /// Far more than any call needs, and a multiple of 16, as a stack's end must be.
 const SIZE: usize = 64 * 1024;
@@ -62,25 +61,4 @@ unsafe fn on_stack<F: FnMut()>(top: *mut u8, call: &mut F) {
 extern "C" fn run<F: FnMut()>(call: *mut F) {
     // SAFETY: on_stack passes the pointer of a borrow that outlives the call.
     unsafe { (*call)() }
-}
-
-#[test]
-#[cfg_attr(debug_assertions, ignore = "the stack is measured in an optimised build")]
-fn measure_sees_an_array_and_little_more() {
-    sees_array::<512>();
-    sees_array::<4096>();
-}
-
-fn sees_array<const BYTES: usize>() {
-    let found = depth(|| (), |_| fill_array::<BYTES>());
-    assert!((BYTES..BYTES + 128).contains(&found), "an array of {BYTES} bytes measures {found}");
-}
-
-#[inline(never)]
-fn fill_array<const BYTES: usize>() {
-    let mut array = [0_u8; BYTES];
-    for byte in &mut array {
-        // SAFETY: the byte is borrowed. A volatile write is not left out.
-        unsafe { ptr::write_volatile(byte, 1) };
-    }
 }
