@@ -40,6 +40,12 @@ pub fn of_every_call() -> Vec<Used> {
     ]
 }
 
+/// Calls and their bytes in one line.
+pub fn listed(used: &[Used]) -> String {
+    let each: Vec<String> = used.iter().map(|(name, bytes)| format!("{name} {bytes}")).collect();
+    each.join(", ")
+}
+
 /// The small drive with this tag held in one place, or with an empty cache.
 fn small(held: Option<u64>) -> Small {
     let mut places = [None; 16];

@@ -11,9 +11,9 @@ const MOST: usize = 1024;
 #[cfg_attr(debug_assertions, ignore = "the stack is measured in an optimised build")]
 fn every_call_uses_less_than_1_kib() {
     let used = checks::stack::of_every_call();
-    let line: Vec<String> = used.iter().map(|(name, bytes)| format!("{name} {bytes}")).collect();
+    let line = checks::stack::listed(&used);
     // Written past the test harness, which would keep a print to itself.
-    writeln!(std::io::stdout(), "stack in bytes: {}", line.join(", ")).expect("it can be printed");
+    writeln!(std::io::stdout(), "stack in bytes: {line}").expect("it can be printed");
     for (name, bytes) in used {
         assert!(bytes < MOST, "{name} uses {bytes} bytes of stack");
     }

@@ -1,0 +1,13 @@
+//! Measures of the key block: its calls against safe Rust on the same inputs,
+//! all in one run, and the stack that each call uses.
+#![forbid(unsafe_code)]
+#![deny(missing_docs)]
+
+pub mod equal;
+pub mod measure;
+pub mod numbers;
+pub mod plain;
+pub mod row;
+pub mod rows;
+pub mod sides;
+pub mod table;

@@ -1,0 +1,87 @@
+//! Document 01, "Erasing a partition", without cuts.
+
+use super::fuses::{burn, is_short};
+use super::map::{Entry, Map};
+use super::{Cache, Drive, Refusal};
+
+/// What a whole erasure answers.
+pub struct Erased {
+    /// The short pairs.
+    pub short_pairs: u32,
+    /// The first cell of the lowest one.
+    pub first_short: Option<u32>,
+    /// The burns carried out.
+    pub burns: u32,
+}
+
+/// Erases a partition: refusals 1, 2, 7, 8, 10 and 15.
+#[inline(never)]
+pub fn erase(drive: &mut Drive, cache: &Cache, partition: u32) -> Result<Erased, Refusal> {
+    let map = drive.map()?;
+    erase_in(&map, drive, cache, partition)
+}
+
+/// The same with the map of the drive.
+pub fn erase_in(
+    map: &Map,
+    drive: &mut Drive,
+    cache: &Cache,
+    number: u32,
+) -> Result<Erased, Refusal> {
+    let entry = map.entry(number).ok_or(7_u32)?;
+    if !entry.is_zeroizable() {
+        return Err(8);
+    }
+    if entry.is_slot() && cache.iter().any(Option::is_some) {
+        return Err(10);
+    }
+    let (part, marks) = (&mut drive.cells[entry.range()], &drive.marks[entry.range()]);
+    let burns = burn_in_order(part, marks, entry, map.header.bound)?;
+    let (short_pairs, lowest) = count_short(part, map.header.bound);
+    let first_short = lowest.map(|pair| u32::from(entry.first) + 2 * pair);
+    Ok(Erased { short_pairs, first_short, burns })
+}
+
+/// Burns the indicator, the data words ascending and the digest: refusal 15.
+fn burn_in_order(
+    part: &mut [u32],
+    marks: &[u32],
+    entry: Entry,
+    bound: u16,
+) -> Result<u32, Refusal> {
+    let (digest, indicator) = (part.len() - 4, part.len() - 2);
+    burn(&mut part[indicator..], &marks[indicator..]);
+    if is_short(&part[indicator..], bound) {
+        return Err(15);
+    }
+    let data = if entry.is_software() {
+        burn_words::<1>(&mut part[..digest], marks)
+    } else {
+        burn_words::<2>(&mut part[..digest], marks)
+    };
+    burn(&mut part[digest..indicator], &marks[digest..indicator]);
+    Ok(data + 2)
+}
+
+/// Burns words of so many cells, one by one, and counts them.
+fn burn_words<const CELLS: usize>(data: &mut [u32], marks: &[u32]) -> u32 {
+    let mut burns = 0;
+    for (word, marks) in data.chunks_exact_mut(CELLS).zip(marks.chunks_exact(CELLS)) {
+        burn(word, marks);
+        burns += 1;
+    }
+    burns
+}
+
+/// The number of short pairs, and the lowest of them.
+fn count_short(part: &[u32], bound: u16) -> (u32, Option<u32>) {
+    let mut short = 0;
+    let mut lowest = None;
+    for (number, pair) in (0..).zip(part.chunks_exact(2)) {
+        if is_short(pair, bound) {
+            short += 1;
+            lowest = lowest.or(Some(number));
+        }
+    }
+    (short, lowest)
+}

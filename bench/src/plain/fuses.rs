@@ -1,0 +1,78 @@
+//! Document 01, "Burning and counting" and the active slot.
+
+use super::map::{Entry, Map};
+use super::Refusal;
+
+/// The state of a partition.
+#[derive(Clone, Copy, Debug, PartialEq, Eq)]
+pub enum State {
+    /// Counted as zeroized, no pair short.
+    Erased,
+    /// Counted as zeroized, some pair short.
+    Torn,
+    /// Not counted, every data cell zero.
+    Blank,
+    /// Not counted, some data fuse set.
+    Programmed,
+}
+
+/// Writes the state and the short pairs of each partition to the front of the
+/// array, and says how many partitions there are: refusals 1 and 2.
+#[inline(never)]
+pub fn states(
+    image: &[u8],
+    cells: &[u32],
+    marks: &[u32],
+    listed: &mut [(State, u32); 16],
+) -> Result<u32, Refusal> {
+    let map = super::checked_map(image, cells, marks)?;
+    for (entry, place) in map.entries().zip(listed) {
+        *place = survey(&cells[entry.range()], entry, map.header.bound);
+    }
+    Ok(map.header.partitions.into())
+}
+
+/// The first slot that is not erased, and whether it gives the HEK.
+pub fn active_slot(map: &Map, cells: &[u32]) -> Option<(u32, bool)> {
+    for (number, entry) in (0..).zip(map.entries()) {
+        if entry.is_slot() {
+            let (state, _) = survey(&cells[entry.range()], entry, map.header.bound);
+            if state != State::Erased {
+                return Some((number, state == State::Programmed));
+            }
+        }
+    }
+    None
+}
+
+/// A partition's state and its short pairs.
+fn survey(part: &[u32], entry: Entry, bound: u16) -> (State, u32) {
+    let short = part.chunks_exact(2).filter(|pair| is_short(pair, bound)).count() as u32;
+    let tail = if entry.is_zeroizable() { 4 } else { 2 };
+    let data = &part[..part.len() - tail];
+    let state = if entry.is_zeroizable() && !is_short(&part[part.len() - 2..], bound) {
+        if short == 0 {
+            State::Erased
+        } else {
+            State::Torn
+        }
+    } else if data.iter().all(|cell| *cell == 0) {
+        State::Blank
+    } else {
+        State::Programmed
+    };
+    (state, short)
+}
+
+/// Whether a pair has fewer ones than the bound.
+pub fn is_short(pair: &[u32], bound: u16) -> bool {
+    let fuses = u64::from(pair[0]) | u64::from(pair[1]) << 32;
+    fuses.count_ones() < u32::from(bound)
+}
+
+/// Burns all ones into a word of any number of cells.
+pub fn burn(word: &mut [u32], marks: &[u32]) {
+    for (cell, mark) in word.iter_mut().zip(marks) {
+        *cell |= !mark;
+    }
+}

@@ -1,0 +1,158 @@
+//! Document 01, "Mailbox", with the cache and the engine block.
+
+use super::erasure::erase_in;
+use super::fuses::active_slot;
+use super::map::Map;
+use super::{Cache, Drive, Refusal};
+
+/// What the engine is to do.
+pub enum Order {
+    /// Nothing.
+    None,
+    /// Clear, with the timeout.
+    Clear(u32),
+    /// Load into a place, with the timeout.
+    Load(u32, u32),
+    /// Unload from a place, with the timeout.
+    Unload(u32, u32),
+}
+
+/// What the mailbox is lent besides drive and cache.
+pub struct Buffers<'a> {
+    /// The request.
+    pub request: &'a [u8],
+    /// The response buffer.
+    pub response: &'a mut [u8],
+    /// The engine block.
+    pub block: &'a mut [u8],
+}
+
+const NONE: u32 = 0xFFFF_FFFF;
+
+/// Carries out a mailbox command, and answers the length of its response and
+/// the order for the engine.
+#[inline(never)]
+pub fn mailbox(
+    drive: &mut Drive,
+    cache: &mut Cache,
+    code: u32,
+    buffers: Buffers,
+) -> Result<(usize, Order), Refusal> {
+    let map = drive.map()?;
+    if buffers.block.len() != 128 || buffers.response.len() < 20 {
+        return Err(2);
+    }
+    judge_request(code, buffers.request)?;
+    carry_out(&map, drive, cache, code, buffers)
+}
+
+/// What each command does, by its own refusals.
+fn carry_out(
+    map: &Map,
+    drive: &mut Drive,
+    cache: &mut Cache,
+    code: u32,
+    buffers: Buffers,
+) -> Result<(usize, Order), Refusal> {
+    let Buffers { request, response, block } = buffers;
+    match &code.to_be_bytes() {
+        b"CLKC" => {
+            *cache = [None; 16];
+            write_block(block, &[], 0);
+            Ok((respond(response, &[]), Order::Clear(u32_at(request, 8))))
+        }
+        b"KLOD" => {
+            let place = load(map, drive.cells, cache, tag_of(request))?;
+            write_block(block, &request[20..], tag_of(request));
+            Ok((respond(response, &[place]), Order::Load(place, u32_at(request, 8))))
+        }
+        b"KUNL" => {
+            let place = unload(cache, tag_of(request))?;
+            write_block(block, &[], tag_of(request));
+            Ok((respond(response, &[]), Order::Unload(place, u32_at(request, 8))))
+        }
+        b"FERS" => {
+            let erased = erase_in(map, drive, cache, u32_at(request, 8))?;
+            let first_short = erased.first_short.unwrap_or(NONE);
+            Ok((respond(response, &[erased.short_pairs, first_short]), Order::None))
+        }
+        _ => {
+            let (slot, available) = active_slot(map, drive.cells).unwrap_or((NONE, false));
+            Ok((respond(response, &[slot, available.into()]), Order::None))
+        }
+    }
+}
+
+/// Refusals 3 to 6.
+fn judge_request(code: u32, request: &[u8]) -> Result<(), Refusal> {
+    let length = match &code.to_be_bytes() {
+        b"CLKC" | b"FERS" => 12,
+        b"KLOD" => 84,
+        b"KUNL" => 20,
+        b"FSTA" => 8,
+        _ => return Err(3),
+    };
+    if request.len() != length {
+        return Err(4);
+    }
+    let sum = sum(&code.to_le_bytes()).wrapping_add(sum(&request[4..]));
+    if u32_at(request, 0) != 0_u32.wrapping_sub(sum) {
+        return Err(5);
+    }
+    if u32_at(request, 4) != 0 {
+        return Err(6);
+    }
+    Ok(())
+}
+
+/// Takes the lowest empty place for a tag: refusals 11, 12 and 13.
+fn load(map: &Map, cells: &[u32], cache: &mut Cache, tag: u64) -> Result<u32, Refusal> {
+    if !matches!(active_slot(map, cells), Some((_, true))) {
+        return Err(11);
+    }
+    if cache.contains(&Some(tag)) {
+        return Err(12);
+    }
+    let place = cache.iter().position(Option::is_none).ok_or(13_u32)?;
+    cache[place] = Some(tag);
+    Ok(place as u32)
+}
+
+/// Frees the lowest place that holds a tag: refusal 14.
+fn unload(cache: &mut Cache, tag: u64) -> Result<u32, Refusal> {
+    let place = cache.iter().position(|held| *held == Some(tag)).ok_or(14_u32)?;
+    cache[place] = None;
+    Ok(place as u32)
+}
+
+/// Builds the engine block of a key, which may be none, and a tag; then writes it.
+fn write_block(block: &mut [u8], key: &[u8], tag: u64) {
+    let mut built = [0; 128];
+    built[..key.len()].copy_from_slice(key);
+    built[64..72].copy_from_slice(&tag.to_le_bytes());
+    block.copy_from_slice(&built);
+}
+
+/// Writes a response with these fields after reserved, and answers its length.
+fn respond(response: &mut [u8], fields: &[u32]) -> usize {
+    let length = 12 + 4 * fields.len();
+    response[4..12].fill(0);
+    for (bytes, field) in response[12..length].chunks_exact_mut(4).zip(fields) {
+        bytes.copy_from_slice(&field.to_le_bytes());
+    }
+    let chksum = 0_u32.wrapping_sub(sum(&response[4..length]));
+    response[..4].copy_from_slice(&chksum.to_le_bytes());
+    length
+}
+
+fn sum(bytes: &[u8]) -> u32 {
+    bytes.iter().fold(0, |sum, byte| sum.wrapping_add(u32::from(*byte)))
+}
+
+fn tag_of(request: &[u8]) -> u64 {
+    u64::from(u32_at(request, 12)) | u64::from(u32_at(request, 16)) << 32
+}
+
+fn u32_at(bytes: &[u8], at: usize) -> u32 {
+    u32::from_le_bytes([bytes[at], bytes[at + 1], bytes[at + 2], bytes[at + 3]])
+}

@@ -1,0 +1,113 @@
+//! The inputs of the measures.
+
+use crate::row::{Call, Row};
+use checks::random::Random;
+use model::cache::Cache;
+use model::drive::Drive;
+use model::image::{entry, Image, SLOT_FLAGS};
+use model::lent::Lent;
+use model::mailbox::fields::Command;
+use model::mailbox::request::{Request, Values};
+use model::map::{HARDWARE, SOFTWARE, ZEROIZABLE};
+
+const CELLS: usize = 2048;
+const PARTITIONS: usize = 16;
+/// The cells of a partition of the largest map.
+const SHARE: usize = CELLS / PARTITIONS;
+/// The cells behind a zeroizable partition's data.
+const TAIL: usize = 4;
+
+/// How many places are held where a key is loaded or unloaded, with tags that
+/// count up from the first; KUNL names the last of them.
+const HELD: usize = 8;
+const FIRST_TAG: u64 = 0x0123_4567_89AB_CD00;
+const LAST_TAG: u64 = FIRST_TAG + HELD as u64 - 1;
+
+/// The states of 2,048 cells in 16 partitions, four of each state.
+pub fn states() -> Row {
+    row("states, 16 partitions, 2,048 cells", every_state(), Call::States)
+}
+
+/// Every row, in the order of the table.
+pub fn all() -> Vec<Row> {
+    let (pairs, singles) =
+        (one_partition(HARDWARE, SLOT_FLAGS), one_partition(SOFTWARE, ZEROIZABLE));
+    let mut rows = vec![
+        states(),
+        row("map check, 16 partitions, 256 bytes", every_state(), Call::Fields { partition: 15 }),
+        row("erasure, 2,048 cells in pairs", pairs, Call::Erase { partition: 0 }),
+        row("erasure, 2,048 single cells", singles, Call::Erase { partition: 0 }),
+    ];
+    rows.extend(Command::ALL.map(|command| mailbox(command, "small drive", Drive::small())));
+    rows.extend(Command::ALL.map(|command| mailbox(command, "largest map", last_slot_active())));
+    rows
+}
+
+/// A call with an empty cache, on a drive that it leaves fit for the same again.
+fn row(name: &str, drive: Drive, call: Call) -> Row {
+    let start =
+        Lent { drive, cache: Cache::default(), block: vec![0xB1; 128], response: vec![0xA5; 20] };
+    Row { name: name.to_string(), start, call, put_back: false }
+}
+
+/// A mailbox call for partition 0 that is carried out.
+fn mailbox(command: Command, drive_name: &str, drive: Drive) -> Row {
+    // KLOD names the tag after the last.
+    let tag = if command == Command::Klod { LAST_TAG + 1 } else { LAST_TAG };
+    let values = Values { timeout: 1000, tag, mek: [0x6B; 64], ..Values::default() };
+    let call = Call::Mailbox(Request::of(command, &values));
+    let mut row = row(&format!("{}, {drive_name}", command.name()), drive, call);
+    if matches!(command, Command::Klod | Command::Kunl) {
+        let places = row.start.cache.places.iter_mut().zip(FIRST_TAG..).take(HELD);
+        places.for_each(|(place, tag)| *place = Some(tag));
+        row.put_back = true;
+    }
+    row
+}
+
+/// A drive with one partition in all 2,048 cells. Of some pairs four fuses are
+/// stuck, so that they are not short once they are burned.
+fn one_partition(kind: u8, flags: u8) -> Drive {
+    let entries = vec![entry(0, CELLS as u16, kind, flags)];
+    let image = Image { cells: CELLS as u16, bound: 60, entries_at: 8, entries };
+    let marks = (0..CELLS).map(|cell| if cell % 6 == 0 { 0x0F } else { 0 }).collect();
+    Drive { image: image.bytes(), cells: vec![0; CELLS], marks }
+}
+
+/// The largest map, 16 slots in 2,048 cells, with an image of 256 bytes.
+fn largest(fill: impl Fn(usize, &mut [u32])) -> Drive {
+    let slot = |i: usize| entry((i * SHARE) as u16, SHARE as u16, HARDWARE, SLOT_FLAGS);
+    let entries = (0..PARTITIONS).map(slot).collect();
+    let image = Image { cells: CELLS as u16, bound: 60, entries_at: 128, entries };
+    let mut cells = vec![0; CELLS];
+    cells.chunks_exact_mut(SHARE).enumerate().for_each(|(i, part)| fill(i, part));
+    Drive { image: image.bytes(), cells, marks: vec![0; CELLS] }
+}
+
+/// The slots are erased, torn, blank and programmed in turn.
+fn every_state() -> Drive {
+    largest(|i, part| match i % 4 {
+        0 => part.fill(u32::MAX),
+        1 => {
+            program(i, part);
+            part[SHARE - 2..].fill(u32::MAX);
+        }
+        2 => {}
+        _ => program(i, part),
+    })
+}
+
+/// Every slot is erased but the last, which is programmed: the active slot is
+/// found after all others.
+fn last_slot_active() -> Drive {
+    largest(|i, part| match i {
+        15 => program(i, part),
+        _ => part.fill(u32::MAX),
+    })
+}
+
+/// Fills a slot's data with a seed.
+fn program(number: usize, part: &mut [u32]) {
+    let mut random = Random::new(number as u64);
+    part[..SHARE - TAIL].fill_with(|| random.cell());
+}

@@ -1,0 +1,54 @@
+//! The table of the measures, in Markdown.
+
+use crate::measure::Measure;
+use crate::sides::{LIBRARY, MODEL, PLAIN};
+use checks::runner::in_repository;
+use checks::stack;
+use std::path::PathBuf;
+
+const HEAD: &str = "\
+| call | library | plain | library / plain | median | model | library / model |
+|---|---|---|---|---|---|---|
+";
+
+const NOTE: &str = "
+Nanoseconds a call, the best of many short runs in which the sides take turns; the ratios are those \
+of the best times, `median` is the median of library / plain over all runs. Every side is built for \
+release and called through the same code, the library through its safe Rust functions. `plain` is \
+safe Rust as one writes it without care for speed, with no allocation and early exits (`bench/src/plain`); \
+`model` is the tests' oracle, written to be read. Before it is timed, each call is made on all three, \
+and answers, cells, cache, block, response and states are equal. Each call is repeated on what it \
+left; KLOD and KUNL find 8 keys held, and the time to put the cache back is part of theirs on every side. \
+In the largest map (16 slots, 2,048 cells, 256 bytes) the active slot is the last.
+";
+
+/// Where the table is kept.
+pub fn path() -> PathBuf {
+    in_repository("bench/TABLE.md")
+}
+
+/// The table of these measures, with the stack of each call.
+pub fn text(measures: &[Measure]) -> String {
+    let rows: String = measures.iter().map(line).collect();
+    let used = stack::listed(&stack::of_every_call());
+    format!("{HEAD}{rows}{NOTE}\nStack in bytes, the safe Rust call included: {used}.\n")
+}
+
+fn line(measure: &Measure) -> String {
+    let name = &measure.row.name;
+    let [library, plain, model] =
+        [LIBRARY, PLAIN, MODEL].map(|side| grouped(measure.best(side).round() as u64));
+    let (ratio, median) = (measure.ratio(PLAIN), measure.median_ratio(PLAIN));
+    let to_model = measure.ratio(MODEL);
+    format!(
+        "| {name} | {library} | {plain} | {ratio:.2} | {median:.2} | {model} | {to_model:.2} |\n"
+    )
+}
+
+/// A number with a comma before each three digits.
+fn grouped(number: u64) -> String {
+    match number {
+        0..=999 => number.to_string(),
+        _ => format!("{},{:03}", grouped(number / 1000), number % 1000),
+    }
+}
