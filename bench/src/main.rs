@@ -1,4 +1,5 @@
-//! Measures everything, prints the table and writes it to `bench/TABLE.md`.
+//! Measures everything, prints the table, writes it to `bench/TABLE.md` and shows
+//! it in README.md.
 
 use bench::measure::Measure;
 use bench::{equal, rows, table};
@@ -22,8 +23,10 @@ fn main() {
         }
     }
     let text = table::text(&measures);
-    let path = table::path();
-    fs::write(&path, &text).unwrap_or_else(|error| panic!("{}: {error}", path.display()));
+    let readme = fs::read_to_string(table::readme()).expect("README.md can be read");
+    let [before, _, after] = table::parts(&readme).expect("README.md has the table's comments");
+    fs::write(table::path(), &text).expect("bench/TABLE.md can be written");
+    fs::write(table::readme(), [before, &text, after].concat()).expect("README.md can be written");
     let sum = measures.iter().fold(0, |sum: u32, measure| sum.wrapping_add(measure.sum));
     print!("{text}\nsum of all answers: {sum:08X}\n");
 }

@@ -22,9 +22,25 @@ left; KLOD and KUNL find 8 keys held, and the time to put the cache back is part
 In the largest map (16 slots, 2,048 cells, 256 bytes) the active slot is the last.
 ";
 
+/// The comments in README.md that the table stands between.
+const BEGIN: &str = "<!-- bench/TABLE.md -->\n";
+const END: &str = "<!-- end -->\n";
+
 /// Where the table is kept.
 pub fn path() -> PathBuf {
     in_repository("bench/TABLE.md")
+}
+
+/// Where it is shown.
+pub fn readme() -> PathBuf {
+    in_repository("README.md")
+}
+
+/// README.md in three parts: up to the table, the table, and what follows.
+pub fn parts(readme: &str) -> Option<[&str; 3]> {
+    let table = readme.find(BEGIN)? + BEGIN.len();
+    let end = table + readme[table..].find(END)?;
+    Some([&readme[..table], &readme[table..end], &readme[end..]])
 }
 
 /// The table of these measures, with the stack of each call.

@@ -11,8 +11,8 @@ const DOCUMENTS: [&str; 4] =
     ["README.md", "docs/ARCHITECTURE.md", "docs/DECISIONS.md", "drives/README.md"];
 
 /// Where names come from. Of a document itself its path counts, and nothing else.
-const SOURCES: [&str; 8] =
-    [".ci", "crates", "docs", "drives", "examples", "include", "rust", "crates.txt"];
+const SOURCES: [&str; 9] =
+    [".ci", "bench", "crates", "docs", "drives", "examples", "include", "rust", "crates.txt"];
 
 /// The words of a text: names of Rattle, antt, Rust and C, whole.
 fn words(text: &str) -> impl Iterator<Item = &str> {
