@@ -2,7 +2,7 @@
 // it. Its methods take it apart and call the covered functions of `map`; each is proved by a walk of
 // its own, by hand (`proofs/MapReader`). `entry_of` has plain parameters, so that its callers need no
 // walk, and `partition_fields` is the entry point: it refuses a bad map and a partition that is not
-// there. The definitions are in `specs/Reader`. It rests on `map`, and below it on `laws`.
+// there. The definitions are in `specs/Reader`. It rests on `map`, and below it on `endian` and `laws`.
 use map::Entry;
 use map::Header;
 ghost use mathlib.Core.Path.{_≡_};

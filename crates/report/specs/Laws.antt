@@ -1,6 +1,6 @@
 -- The report's laws: the last line, a law for each refusal, the cells as they are read, the table, and what an accepted input tells.
 -- Assumes nothing.
-use Prim.Native.Nat.{ℕ, suc, _+_, _-_, _*_, _≤_, _<_}
+use Prim.Native.Nat.{ℕ, _+_, _-_, _*_, _≤_, _<_}
 use mathlib.Core.Path.{_≡_, refl, ap, _∙_}
 use mathlib.Core.Bool.{Bool, true, false, cond, not}
 use mathlib.Core.List.{List, _++_}
@@ -18,7 +18,7 @@ use Rattle.map.specs.Laws.{map-header, map-entry}
 use Rattle.partition.specs.declared.Survey.{Survey}
 use Rattle.drive.specs.declared.ActiveSlot.{ActiveSlot}
 use Rattle.drive.specs.Laws.{available-tells, short-most}
-use Rattle.drive.specs.Drive.{cellsOf, surveyAt, activeSlot, slotNumber, available}
+use Rattle.drive.specs.Drive.{surveyAt, activeSlot, slotNumber, available}
 use Rattle.map.specs.Map.{headerOf, entryOf, mapGood}
 use Rattle.text.specs.Text.{text, decimal}
 use Rattle.laws.specs.Put.{Put}

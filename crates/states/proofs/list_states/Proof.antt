@@ -1,6 +1,5 @@
 -- `states::list_states` meets its contract: by the answer of `check_drive`. Assumes nothing.
 use mathlib.Core.Path.{sym, _∙_}
-use native.Mathlib.Omega.{arith}
 use borrow.Author.Needs.{needs}
 use Rattle.drive.specs.Laws.{judged}
 use Rattle.states.specs.Laws.{lists-none, lists-all}
