@@ -17,7 +17,7 @@ use Rattle.map.specs.Map.{headerOf, entryOf, zeroizable, slot, mapGood}
 use Rattle.map.specs.Laws.{map-header, map-entry}
 use Rattle.partition.specs.declared.State.{State}
 use Rattle.partition.specs.declared.Survey.{Survey}
-use Rattle.partition.specs.Partition.{pairs, shortAt, counted, surveyOf}
+use Rattle.partition.specs.Partition.{pairs, shortAt, shortPairs, counted, surveyOf}
 use Rattle.partition.specs.declared.State.the-variants.{Erased, Torn, Blank, Programmed}
 use Rattle.cache.specs.Cache.{Cache, hasPlace}
 use Rattle.cache.specs.declared.Sought.the-variants.{Held}
@@ -109,15 +109,19 @@ module _ (image cells : List ℕ) (i : ℕ) (terms : Terms) (part : List ℕ) (t
   counted-here r q = cc
 
 -- a partition has at most 1,024 pairs, short or not
-pub short-most : (image cells : List ℕ) → mapGood image ≡ true → (i : ℕ) → i < headerOf image .partitions → surveyAt image cells i .short ≤ 1024
-unfolding surveyAt
-short-most image cells g i l =
-    let h = map-header image g in
-    let x = map-entry image g i l in
-    let part = cellsOf image cells i in
-    let long : length part ≤ entryOf image i .n = simp length-take (omega arith) in
-    let short = count-le (shortAt (headerOf image .bound) part) (pairs part) in
-    omega arith
+module _ (image cells : List ℕ) (good : mapGood image ≡ true) (i : ℕ) (l : i < headerOf image .partitions) where
+  pub shorts-most : (bound : ℕ) → shortPairs bound (cellsOf image cells i) ≤ 1024
+  shorts-most bound =
+      let h = map-header image good in
+      let x = map-entry image good i l in
+      let part = cellsOf image cells i in
+      let long : length part ≤ entryOf image i .n = simp length-take (omega arith) in
+      let short = count-le (shortAt bound part) (pairs part) in
+      omega arith
+
+  pub short-most : surveyAt image cells i .short ≤ 1024
+  unfolding surveyAt
+  short-most = shorts-most (headerOf image .bound)
 
 -- ---- a slot's answer
 

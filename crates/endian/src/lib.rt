@@ -15,7 +15,7 @@ pub fn byte_at(bytes: &[u8], k: usize) -> u8
 }
 
 // A byte as a u16.
-fn wide(x: u8) -> u16
+fn widened(x: u8) -> u16
     ensures { λ r. ⌜ (r ≡ x) × (r < 256) ⌝ }
 {
     x as u16
@@ -25,13 +25,12 @@ fn wide(x: u8) -> u16
 pub fn u16_at(bytes: &[u8], k: usize) -> u16
     ensures { λ r. ⌜ r ≡ u16At (now (bytes .entry)) k ⌝ }
 {
-    if bytes.len() < 2 {
-        return wide(byte_at(bytes, k));
+    if 2 <= bytes.len() {
+        if k <= bytes.len() - 2 {
+            return widened(bytes[k]) + 256 * widened(bytes[k + 1]);
+        }
     }
-    if bytes.len() - 2 < k {
-        return wide(byte_at(bytes, k));
-    }
-    wide(bytes[k]) + 256 * wide(bytes[k + 1])
+    widened(byte_at(bytes, k))
 }
 
 // The u32 whose lowest byte is at `k`.

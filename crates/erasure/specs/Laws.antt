@@ -7,7 +7,6 @@ use native.Mathlib.Omega.{arith}
 use lib.Dec.{leb}
 use lib.ListN.{length, take, drop, length-drop, length-take}
 use borrow.Author.Tests.{le-leb, lt-leb, leb-false, not-false}
-use Rattle.laws.specs.Below.{count-le}
 use Rattle.laws.specs.Refusals.{lowest, numberOf, number-refuses, number-passes}
 use Rattle.map.specs.declared.Header.{Header}
 use Rattle.map.specs.declared.Entry.{Entry}
@@ -16,7 +15,7 @@ use Rattle.map.specs.Laws.{map-header, map-entry}
 use Rattle.partition.specs.declared.Lowest.{Lowest}
 use Rattle.partition.specs.declared.Lowest.the-variants.{Cell, Nothing}
 use Rattle.partition.specs.declared.Shorts.{Shorts}
-use Rattle.partition.specs.Partition.{pairs, shortAt, shortPairs, lowestShort, shortsOf}
+use Rattle.partition.specs.Partition.{lowestShort, shortsOf}
 use Rattle.partition.specs.Laws.{lowest-tells}
 use Rattle.burns.specs.declared.End.{End}
 use Rattle.burns.specs.declared.End.the-variants.{Whole}
@@ -24,7 +23,7 @@ use Rattle.burns.specs.declared.Report.{Report}
 use Rattle.burns.specs.Run.{Tally, tallyOf, Ran, ranAs, run}
 use Rattle.drive.specs.declared.Check.the-variants.{Ready, Refused as NotReady}
 use Rattle.drive.specs.Drive.{Whole as WholeDrive, checkOf, cellsOf, slotInUse}
-use Rattle.drive.specs.Laws.{check-refused, check-passed, judged, part-is}
+use Rattle.drive.specs.Laws.{check-refused, check-passed, judged, part-is, shorts-most}
 use Rattle.cache.specs.Cache.{Cache, empty}
 use Rattle.erasure.specs.declared.Answer.{Answer}
 use Rattle.erasure.specs.declared.Answer.the-variants.{Erased, Refused}
@@ -64,9 +63,6 @@ module _ (image cells : List ℕ) (i : ℕ) (whole : WholeDrive image cells) (l 
   part-small = omega (arith, part-long, part-end, whole .long, map-header image (whole .good) .cells-most)
 
   -- so its numbers fit in 32 bits
-  shorts-fit : (bound : ℕ) → shortPairs bound (cellsOf image cells i) < 2 ^ 32
-  shorts-fit bound = let part = cellsOf image cells i in omega (arith, count-le (shortAt bound part) (pairs part), part-small)
-
   first-fits : (bound : ℕ) (lowest : Lowest) → lowest ≡ lowestShort bound (cellsOf image cells i) → firstShort (entryOf image i .first) lowest < 2 ^ 32
   first-fits bound (Cell k) e =
       let at = lowest-tells bound (cellsOf image cells i) k e in
@@ -75,7 +71,7 @@ module _ (image cells : List ℕ) (i : ℕ) (whole : WholeDrive image cells) (l 
 
   module _ (bound : ℕ) {part : List ℕ} {shorts : Shorts} (p : part ≡ cellsOf image cells i) (q : shorts ≡ shortsOf bound part) where
     pub count-fits : shorts .count < 2 ^ 32
-    count-fits = rw (q, p) (shorts-fit bound)
+    count-fits = rw (q, p) (omega (arith, shorts-most image cells (whole .good) i l bound))
 
     pub first-short-fits : {x : Entry} → x ≡ entryOf image i → firstShort (x .first) (shorts .lowest) < 2 ^ 32
     first-short-fits e = rw e (first-fits bound (shorts .lowest) (ap (λ (s : Shorts). s .lowest) q ∙ ap (lowestShort bound) p))

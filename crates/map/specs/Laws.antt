@@ -30,12 +30,12 @@ suc-sub k = omega arith
 pub end-next : (s : List ℕ) (i : ℕ) → endBefore s (i + 1) ≡ endOf (entryOf s i)
 end-next s i = simp (ne-eqb (i + 1) 0 (λ e. omega arith), suc-sub i)
 
--- what the code tests at byte `at` is the rule of the entry that starts there
-pub place-is : (s : List ℕ) (i before cells at : ℕ) (b : Bool) → before ≡ endBefore s i → cells ≡ headerOf s .cells → at ≡ entryPlace s i
-    → b ≡ entryGood before cells (entryAt s at) (u16At s (at + 6))
+-- what the code tests of the entry that starts at byte `at` is its rule
+pub place-is : (s : List ℕ) (i before cells at spare : ℕ) (x : Entry) (b : Bool) → before ≡ endBefore s i → cells ≡ headerOf s .cells → at ≡ entryPlace s i → x ≡ entryAt s at → spare ≡ u16At s (at + 6)
+    → b ≡ entryGood before cells x spare
     → b ≡ placeGood s i
 unfolding placeGood
-place-is s i before cells at b p q t v = rw (v, p, q, t)
+place-is s i before cells at spare x b p q t e u v = rw (v, e, u, p, q, t)
 
 -- the whole check, at the header h that was read
 module _ (s : List ℕ) (h : Header) (e : h ≡ headerOf s) where

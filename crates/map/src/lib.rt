@@ -6,7 +6,6 @@ ghost use mathlib.Core.Path.{_≡_};
 ghost use Prim.Native.Nat.{_+_, _*_, _^_, _<_, _≤_};
 ghost use lib.ListN.{length};
 ghost use Rattle.laws.specs.Below.{allBelow};
-ghost use Rattle.endian.specs.Endian.{u16At};
 ghost use Rattle.map.specs.Map.{headerOf, entryAt, entryOf, endOf, software, zeroizable, secret, slot, headerGood, fillerGood, entryGood, placeGood, mapGood};
 
 // The four numbers at the start of an image.
@@ -123,8 +122,8 @@ fn header_good(h: Header, len: usize) -> bool
         & (len == (h.offset as usize) + 8 * (h.partitions as usize))
 }
 
-// Whether bytes 8 up to `offset` are zero. It looks at all of them, many at a time, which takes less
-// time than to stop at the first that is not.
+// Whether bytes 8 up to `offset` are zero. It looks at all of them: a loop that does not stop early is
+// one that the compiler makes fast.
 fn filler_good(image: &[u8], offset: usize) -> bool
     requires { ⌜ (8 ≤ offset) × (offset ≤ length (now image)) ⌝ }
     ensures { λ r. ⌜ r ≡ allBelow (fillerGood (now (image .entry))) offset ⌝ }
@@ -161,17 +160,6 @@ fn entry_good(before: usize, cells: u16, x: Entry, spare: u16) -> bool
         & (!slot | zeroizable & secret)
 }
 
-// Whether the entry that starts at byte `at` keeps its rules, where the one before it ends at `before`
-// and the array has `cells` cells.
-fn place_good(image: &[u8], at: usize, before: usize, cells: u16) -> bool
-    requires { ⌜ at < 2 ^ 36 ⌝ }
-    ensures { λ r. ⌜ r ≡ entryGood before cells (entryAt (now (image .entry)) at) (u16At (now (image .entry)) (at + 6)) ⌝ }
-{
-    let x = entry_at(image, at);
-    let spare = endian::u16_at(image, at + 6);
-    entry_good(before, cells, x, spare)
-}
-
 // Whether the entries of an image with this header keep their rules.
 fn entries_good(image: &[u8], h: Header) -> bool
     requires { ⌜ h ≡ headerOf (now image) ⌝ }
@@ -182,10 +170,12 @@ fn entries_good(image: &[u8], h: Header) -> bool
     let mut end: usize = 0;
     let mut i: u32 = 0;
     while i < partitions {
-        if !place_good(image, at, end, h.cells) {
+        let x = entry_at(image, at);
+        let spare = endian::u16_at(image, at + 6);
+        if !entry_good(end, h.cells, x, spare) {
             return false;
         }
-        end = end_of(entry_at(image, at));
+        end = end_of(x);
         at += 8;
         i += 1;
     }

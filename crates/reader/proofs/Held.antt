@@ -1,5 +1,4 @@
--- What the walks over a `MapReader` share: its type, and that a reader that was passed by value lends its image to a callee and is kept whole for the exit.
--- The struct is Copy: what it owns is had twice, and of one copy what its image owns is taken out.
+-- What the walks over a `MapReader` share: its type; that it is Copy, so that what it owns is had twice; and that a reader that was passed by value lends its image to a callee and is kept whole for the exit: of one copy what its image owns is taken out.
 -- Assumes `Given`.
 use mathlib.Core.Path.{_≡_}
 use mathlib.Core.List.{[], _∷_}
@@ -43,6 +42,9 @@ Own κ d = Reader (κ, tt) .own d (machine d ∷ [])
 abbrev pub ImageOwn : Lft → MapReader → Fml
 ImageOwn κ d = ShrSlice (named 0) κ u8 .own (d .image) (imageValue d ∷ [])
 
+pub had-twice : {M : Type 1} (𝓤 : URA M) (H : Heap 𝓤) (A : Atoms 𝓤) (W : Given 𝓤 H A) (κ : Lft) (d : MapReader) (u : Val) → ent 𝓤 (sem 𝓤 H A (Reader (κ, tt) .own d (u ∷ []))) (sep 𝓤 (sem 𝓤 H A (Reader (κ, tt) .own d (u ∷ []))) (sem 𝓤 H A (Reader (κ, tt) .own d (u ∷ []))))
+had-twice 𝓤 H A W κ d u = LL.copy (T.the-type (namedLft 1 0 tt (κ, tt))) (T′.the-copy (namedLft 1 0 tt (κ, tt))) 𝓤 H A W .twice d (u ∷ [])
+
 module _ {M : Type 1} (𝓤 : URA M) (H : Heap 𝓤) (A : Atoms 𝓤) (W : Given 𝓤 H A) (κ : Lft) (q : Share) (d : MapReader) where
   abbrev D : Declared
   D = T.the-type (namedLft 1 0 tt (κ, tt))
@@ -57,7 +59,7 @@ module _ {M : Type 1} (𝓤 : URA M) (H : Heap 𝓤) (A : Atoms 𝓤) (W : Given
   pub lends-image : (others : Fml) → ent 𝓤 (sep 𝓤 (sep 𝓤 (sem 𝓤 H A (flft κ q)) (sem 𝓤 H A ftrue)) (sem 𝓤 H A (fsep (Own κ d) others))) (sep 𝓤 (sep 𝓤 (sep 𝓤 (sem 𝓤 H A (flft κ q)) (sem 𝓤 H A ftrue)) (sem 𝓤 H A (fsep (ImageOwn κ d) others))) (sem 𝓤 H A (Own κ d)))
   lends-image others =
       qed W ((‵ (flft κ q) ⊛ ‵ ftrue) ∷ ‵ (fsep (Own κ d) others) ∷ []) ∵
-      move ! (1 ∷ []) $ fsplit ! $ use1 W (‵ (Own κ d) ⊛ ‵ (Own κ d)) (LL.copy D (T′.the-copy (namedLft 1 0 tt (κ, tt))) 𝓤 H A W .twice d (machine d ∷ [])) $ split ! $
+      move ! (1 ∷ []) $ fsplit ! $ use1 W (‵ (Own κ d) ⊛ ‵ (Own κ d)) (had-twice 𝓤 H A W κ d (machine d)) $ split ! $
       use1 W (given (machine d ∷ [] ≡ machine d ∷ []) (‵ (all-own (D .parts) L fields))) (own-open 𝓤 H A W D L fields (machine d)) $ learn ! (λ _.
       use1 W (‵ (ownAt (D .parts) L 0 (d .image)) ⊛ ‵ (rest (D .parts) L 0 fields)) (own-out 𝓤 H A W (D .parts) L 0 fields) $ split ! $
       -- [what the image owns; what is left of the copy; what the reader owns; others; the token]

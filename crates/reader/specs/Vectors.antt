@@ -8,8 +8,8 @@ use Rattle.map.specs.Map.{headerGood, fillerGood, entryGood, placeGood, mapGood
 use Rattle.map.specs.Vectors.{image, two}
 use Rattle.map.specs.declared.Header.{Header}
 use Rattle.map.specs.declared.Entry.{Entry}
-use Rattle.reader.specs.Reader.{fieldsOf}
-use Rattle.reader.specs.declared.Fields.the-variants.{Partition, Refused}
+use Rattle.reader.specs.Reader.{bothOf, readingOf}
+use Rattle.reader.specs.declared.Reading.the-variants.{Partition, Refused}
 
 -- "P = 2, C = 12, B = 60, E = 8"
 abbrev header : Header
@@ -23,7 +23,7 @@ abbrev software : Entry
 software = record { first = 6; n = 6; kind = 1; flags = 0 }
 
 small-drive :
-    fieldsOf (image 2 12 60 8 [] two) 0 ∷ fieldsOf (image 2 12 60 8 [] two) 1 ∷ fieldsOf (image 2 12 60 8 [] two) 2 ∷ fieldsOf (image 2 12 65 8 [] two) 2 ∷ []
-    ≡ Partition header slot ∷ Partition header software ∷ Refused 7 ∷ Refused 1 ∷ []
+    readingOf (image 2 12 60 8 [] two) 0 ∷ readingOf (image 2 12 60 8 [] two) 1 ∷ readingOf (image 2 12 60 8 [] two) 2 ∷ readingOf (image 2 12 65 8 [] two) 2 ∷ []
+    ≡ Partition (bothOf header slot) ∷ Partition (bothOf header software) ∷ Refused 7 ∷ Refused 1 ∷ []
 unfolding mapGood every headerGood fillerGood entryGood placeGood allBelow u16At
 small-drive = refl

@@ -1,7 +1,7 @@
 // The status program's answer: the bytes that it reads go in, the bytes that it prints come out in a
 // lent buffer. Reading, judging and every printed byte are decided here; the program only moves
 // bytes. The definitions are in `specs/Status`, the laws in `specs/Laws` and `specs/Longer`. It rests
-// on `drive`, `reader`, `map`, `partition` and `text`, and below them on `endian` and `laws`.
+// on `drive`, `reader`, `map`, `partition` and `text`, and below them on `cache`, `endian` and `laws`.
 use drive::ActiveSlot;
 use partition::State;
 use partition::Survey;
@@ -122,7 +122,8 @@ fn put_table(out: &mut [u8], image: &[u8], cells: &[u32]) -> usize
     let mut at = text::put(out, 0, b"part cells state short\n");
     let mut i: u32 = 0;
     while i < partitions {
-        let x = reader::entry_of(image, i);
+        let fields = reader::fields_of(image, i);
+        let x = fields.entry;
         let survey = drive::survey_at(image, cells, i);
         at = put_line(out, at, i, x.n, survey);
         i += 1;

@@ -5,17 +5,19 @@ use mathlib.Core.List.{List}
 use Rattle.cache.specs.Cache.{Cache}
 use Rattle.engine.specs.declared.Order.{Order}
 use Rattle.engine.specs.declared.Order.the-variants.{Nothing, Clear, Load, Unload}
-use Rattle.reader.specs.declared.Fields.{Fields}
-use Rattle.reader.specs.declared.Fields.the-variants.{Partition, Refused as NoFields}
+use Rattle.map.specs.declared.Header.{Header}
+use Rattle.map.specs.declared.Entry.{Entry}
+use Rattle.reader.specs.declared.Reading.{Reading}
+use Rattle.reader.specs.declared.Reading.the-variants.{Partition, Refused as NoFields}
 use Rattle.states.specs.declared.Listing.{Listing}
 use Rattle.states.specs.declared.Listing.the-variants.{Listed, Refused as NotListed}
-use Rattle.states.specs.States.{Outcome as Listing′}
+use Rattle.states.specs.States.{Outcome as ListingOutcome}
 use Rattle.direct.specs.declared.Answer.{Answer}
 use Rattle.direct.specs.declared.Answer.the-variants.{Word, Done, Withheld, Refused as RefusedAnswer}
-use Rattle.direct.specs.Direct.{Outcome as Direct}
+use Rattle.direct.specs.Direct.{Outcome as DirectOutcome}
 use Rattle.erasure.specs.declared.Answer.{Answer as Erasure}
 use Rattle.erasure.specs.declared.Answer.the-variants.{Erased, Cut, Refused as RefusedErasure}
-use Rattle.erasure.specs.Erasure.{CutOutcome, Outcome as Erased′}
+use Rattle.erasure.specs.Erasure.{CutOutcome, Outcome as ErasureOutcome}
 use Rattle.mailbox.specs.declared.Reply.{Reply}
 use Rattle.mailbox.specs.declared.Reply.the-variants.{Refused, Accepted}
 use Rattle.mailbox.specs.Mailbox.{Outcome}
@@ -26,8 +28,11 @@ use Rattle.sciambrunola.specs.declared.SciErasure.{SciErasure}
 use Rattle.sciambrunola.specs.declared.SciReply.{SciReply}
 
 -- the header's P, C and B, then the entry's "first cell", "cells n", kind and flags
-abbrev pub fieldsNumbers : Fields → SciFields
-fieldsNumbers (Partition header entry) = record { refusal = 0; partitions = header .partitions; cells = header .cells; bound = header .bound; first = entry .first; length = entry .n; kind = entry .kind; flags = entry .flags }
+abbrev pub fieldsNumbers : Reading → SciFields
+fieldsNumbers (Partition fields) =
+    let header : Header = fields .header in
+    let entry : Entry = fields .entry in
+    record { refusal = 0; partitions = header .partitions; cells = header .cells; bound = header .bound; first = entry .first; length = entry .n; kind = entry .kind; flags = entry .flags }
 fieldsNumbers (NoFields number) = record { refusal = number; partitions = 0; cells = 0; bound = 0; first = 0; length = 0; kind = 0; flags = 0 }
 
 -- how many partitions were listed
@@ -62,18 +67,18 @@ replyNumbers (Refused number) = record { refusal = number; length = 0; order = 0
 replyNumbers (Accepted length order) = orderNumbers length order
 
 -- a listing told its answer, and left both arrays, as the definition has them
-pub record ListingTold (r : SciListing) (states shorts : List ℕ) (listing : Listing′) : Type 0 where
+pub record ListingTold (r : SciListing) (states shorts : List ℕ) (listing : ListingOutcome) : Type 0 where
   pub answer : r ≡ listingNumbers (listing .answer)
   pub states-left : states ≡ listing .states
   pub shorts-left : shorts ≡ listing .shorts
 
 -- a direct command told its answer, and left the cells, as the definition has them
-pub record Told (r : SciAnswer) (cells : List ℕ) (direct : Direct) : Type 0 where
+pub record Told (r : SciAnswer) (cells : List ℕ) (direct : DirectOutcome) : Type 0 where
   pub answer : r ≡ answerNumbers (direct .answer)
   pub cells-left : cells ≡ direct .cells
 
 -- an erasure told its answer, and left the cells, as the definition has them
-pub record ErasureTold (r : SciErasure) (cells : List ℕ) (erasure : Erased′) : Type 0 where
+pub record ErasureTold (r : SciErasure) (cells : List ℕ) (erasure : ErasureOutcome) : Type 0 where
   pub answer : r ≡ erasureNumbers (erasure .answer)
   pub cells-left : cells ≡ erasure .cells
 

@@ -2,17 +2,18 @@
 // erasures, the restart and the mailbox, their answers as numbers, since an enum does not cross. Each
 // function does what the entry point below it does, for any bytes and any lengths, and asks nothing
 // of its caller but what include/sciambrunola.h says of pointers. The numbers of each case are in
-// `specs/Numbers`. It rests on `reader`, `states`, `direct`, `erasure` and `mailbox`.
+// `specs/Numbers`. It rests on `reader`, `states`, `direct`, `erasure` and `mailbox`, and below them on
+// `map`, `cache` and `engine`.
 use direct::Answer;
 use direct::Command;
 use engine::Order;
 use erasure::Answer as Erasure;
 use mailbox::Reply;
-use reader::Fields;
+use reader::Reading;
 use states::Listing;
 ghost use mathlib.Core.Path.{_≡_};
 ghost use Rattle.cache.specs.Cache.{cacheOf, empty};
-ghost use Rattle.reader.specs.Reader.{fieldsOf};
+ghost use Rattle.reader.specs.Reader.{readingOf};
 ghost use Rattle.states.specs.States.{listingOf};
 ghost use Rattle.erasure.specs.Erasure.{erasureOf, cutErasureOf};
 ghost use Rattle.direct.specs.Direct.{directOf};
@@ -68,11 +69,11 @@ pub struct SciReply {
 }
 
 // A partition's fields as numbers.
-fn flat_fields(fields: Fields) -> SciFields
-    ensures { λ r. ⌜ r ≡ fieldsNumbers fields ⌝ }
+fn flat_fields(reading: Reading) -> SciFields
+    ensures { λ r. ⌜ r ≡ fieldsNumbers reading ⌝ }
 {
-    match fields {
-        Fields::Refused(number) => SciFields {
+    match reading {
+        Reading::Refused(number) => SciFields {
             refusal: number,
             partitions: 0,
             cells: 0,
@@ -82,16 +83,20 @@ fn flat_fields(fields: Fields) -> SciFields
             kind: 0,
             flags: 0,
         },
-        Fields::Partition { header, entry } => SciFields {
-            refusal: 0,
-            partitions: header.partitions as u32,
-            cells: header.cells as u32,
-            bound: header.bound as u32,
-            first: entry.first as u32,
-            length: entry.n as u32,
-            kind: entry.kind as u32,
-            flags: entry.flags as u32,
-        },
+        Reading::Partition(fields) => {
+            let header = fields.header;
+            let entry = fields.entry;
+            SciFields {
+                refusal: 0,
+                partitions: header.partitions as u32,
+                cells: header.cells as u32,
+                bound: header.bound as u32,
+                first: entry.first as u32,
+                length: entry.n as u32,
+                kind: entry.kind as u32,
+                flags: entry.flags as u32,
+            }
+        }
     }
 }
 
@@ -241,9 +246,9 @@ fn run_flat(
 // The fields of a partition.
 #[no_mangle]
 pub extern "C" fn sci_partition(image: &[u8], partition: u32) -> SciFields
-    ensures { λ r. ⌜ r ≡ fieldsNumbers (fieldsOf (now (image .entry)) partition) ⌝ }
+    ensures { λ r. ⌜ r ≡ fieldsNumbers (readingOf (now (image .entry)) partition) ⌝ }
 {
-    flat_fields(reader::partition_fields(image, partition))
+    flat_fields(reader::read_partition(image, partition))
 }
 
 // The state and the short pairs of each partition.

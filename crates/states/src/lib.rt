@@ -1,7 +1,7 @@
 // The state and the short pairs of every partition of a drive, in one call, as numbers in two lent
 // arrays: what a caller of the library asks a drive. The map is judged once for all partitions. The
 // definitions are in `specs/States`, the laws in `specs/Laws`. It rests on `drive`, `map` and
-// `partition`, and below them on `endian` and `laws`.
+// `partition`, and below them on `cache`, `endian` and `laws`.
 use drive::Check;
 use partition::State;
 ghost use mathlib.Core.Path.{_≡_};

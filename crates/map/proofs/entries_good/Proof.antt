@@ -7,7 +7,7 @@ use borrow.Author.Tests.{not-true, not-false}
 use borrow.Author.Needs.{needs}
 use Rattle.laws.specs.Below.{allBelow, all-step, all-fails}
 use Rattle.map.specs.declared.Header.{Header}
-use Rattle.map.specs.Map.{entryAt, endOf, endBefore, placeGood}
+use Rattle.map.specs.Map.{entryPlace, entryAt, endOf, endBefore, placeGood}
 use Rattle.map.specs.Laws.{end-next, place-is}
 use Rattle.map.proofs.entries_good.Statement.{statement}
 use Rattle.map.proofs.entries_good.Tie as tie
@@ -28,21 +28,31 @@ loop-holds : tie.Need-loop-holds Inv-loop μ-loop
 unfolding allBelow
 loop-holds c = (search needs, omega arith, refl, refl)
 
--- what place_good answers of the entry at `at` is the rule of entry i
-judged : (c : tie.After-place-good Inv-loop μ-loop) → c .place-good .result ≡ placeGood (c .before .before .before .before .before .before .args .image .now) (c .before .before .loop .i)
+-- `at` is the place of entry i
+here : (c : tie.At-loop Inv-loop μ-loop) → c .loop .at ≡ entryPlace (c .before .before .before .before .args .image .now) (c .loop .i)
+here c = c .loop .inv .1 ∙ ap (λ (h : Header). h .offset + 8 * c .loop .i) (c .before .before .before .before .pre)
+
+-- so what entry_good answers is the rule of entry i
+judged : (c : tie.After-entry-good Inv-loop μ-loop) → c .entry-good .result ≡ placeGood (c .before .before .before .before .before .before .before .before .args .image .now) (c .before .before .before .before .loop .i)
 judged c =
-    let top = c .before .before in
-    let h = top .before .before .before .before .pre in
-    place-is _ _ _ _ _ _ (top .loop .inv .2) (ap (λ (h : Header). h .cells) h) (top .loop .inv .1 ∙ ap (λ (h : Header). h .offset + 8 * top .loop .i) h) (c .place-good .ensures)
-
-place-good-requires : tie.Need-place-good-requires Inv-loop μ-loop
-place-good-requires c κs = search needs
-
-returns : tie.Need-returns Inv-loop μ-loop
-returns c = sym (all-fails _ _ _ (c .before .before .loop-test .taken) (sym (judged (c .before)) ∙ not-true _ (c .if1 .taken)))
+    let x = c .before .before in
+    let top = x .before .before in
+    place-is _ _ _ _ _ _ _ _ (top .loop .inv .2) (ap (λ (h : Header). h .cells) (top .before .before .before .before .pre)) (here top) (x .entry-at .ensures) (c .before .u16-at .ensures) (c .entry-good .ensures)
 
 entry-at-requires : tie.Need-entry-at-requires Inv-loop μ-loop
 entry-at-requires c κs = search needs
+
+add-u16-at : tie.Need-add-u16-at Inv-loop μ-loop
+add-u16-at c = search needs
+
+u16-at-requires : tie.Need-u16-at-requires Inv-loop μ-loop
+u16-at-requires c κs = search needs
+
+entry-good-requires : tie.Need-entry-good-requires Inv-loop μ-loop
+entry-good-requires c κs = search needs
+
+returns : tie.Need-returns Inv-loop μ-loop
+returns c = sym (all-fails _ _ _ (c .before .before .before .before .loop-test .taken) (sym (judged (c .before)) ∙ not-true _ (c .if1 .taken)))
 
 end-of-requires : tie.Need-end-of-requires Inv-loop μ-loop
 end-of-requires c κs = search needs
@@ -58,11 +68,10 @@ loop-less c = search needs
 
 loop-again : tie.Need-loop-again Inv-loop μ-loop
 loop-again c =
-    let answered = c .before .before .before in
-    let top = answered .before .before in
-    let h = top .before .before .before .before .pre in
-    let here = top .loop .inv .1 ∙ ap (λ (h : Header). h .offset + 8 * top .loop .i) h in
-    (omega arith, omega (arith, top .loop .inv .1), c .end-of .ensures ∙ ap endOf (c .before .entry-at .ensures ∙ ap (entryAt _) here) ∙ sym (end-next _ _), all-step _ _ (top .loop .inv .3) (sym (judged answered) ∙ not-false _ (c .before .before .if1 .left)))
+    let answered = c .before .before in
+    let x = answered .before .before in
+    let top = x .before .before in
+    (omega arith, omega (arith, top .loop .inv .1), c .end-of .ensures ∙ ap endOf (x .entry-at .ensures ∙ ap (entryAt _) (here top)) ∙ sym (end-next _ _), all-step _ _ (top .loop .inv .3) (sym (judged answered) ∙ not-false _ (c .before .if1 .left)))
 
 returns-2 : tie.Need-returns-2 Inv-loop μ-loop
 returns-2 c = let e : c .before .loop .i ≡ c .before .before .before .before .before .args .h .partitions = omega arith in rw (← e) (sym (c .before .loop .inv .3))
@@ -76,9 +85,11 @@ entries-good-spec =
     cast-partitions
     cast-at
     loop-holds
-    place-good-requires
-    returns
     entry-at-requires
+    add-u16-at
+    u16-at-requires
+    entry-good-requires
+    returns
     end-of-requires
     add-at
     add-i

@@ -7,6 +7,7 @@ use Rattle.map.specs.Map.{headerOf}
 use Rattle.laws.specs.Below.{joinBelow, join-step}
 use Rattle.map.specs.declared.Header.{Header}
 use Rattle.map.specs.Laws.{map-header}
+use Rattle.reader.specs.declared.Fields.{Fields}
 use Rattle.laws.specs.Put.{Put, then, nothing, retext}
 use Rattle.report.specs.Status.{lineAt}
 use Rattle.report.specs.Laws.{line-is, table-is}
@@ -43,18 +44,18 @@ loop-holds : tie.Need-loop-holds Inv-loop μ-loop
 unfolding joinBelow
 loop-holds c = (omega arith, omega arith, nothing _ _ (omega arith))
 
-entry-of-requires : tie.Need-entry-of-requires Inv-loop μ-loop
-entry-of-requires c κs = search needs
+fields-of-requires : tie.Need-fields-of-requires Inv-loop μ-loop
+fields-of-requires c κs = search needs
 
 survey-at-requires : tie.Need-survey-at-requires Inv-loop μ-loop
 survey-at-requires c κs =
-    let top = c .before .before in
+    let top = c .before .before .before in
     let p = counted (top .before) .0 in
     (top .before .before .before .before .before .before .before .before .before .before .before .pre .0, omega arith)
 
 put-line-requires : tie.Need-put-line-requires Inv-loop μ-loop
 put-line-requires c κs =
-    let top = c .before .before .before .before in
+    let top = c .before .before .before .before .before in
     let most = counted (top .before) .1 in
     omega (arith, top .loop .inv .2 .same, top .before .before .before .put .ensures .same, top .before .before .before .put .ensures .is-next, top .before .before .before .before .before .before .before .before .before .before .before .pre .1)
 
@@ -67,9 +68,9 @@ loop-less c = search needs
 loop-again : tie.Need-loop-again Inv-loop μ-loop
 loop-again c =
     let line = c .before .before in
-    let x = line .before .before .before in
-    let top = x .before .before in
-    let lines = then (top .loop .inv .2) (retext (line-is _ _ _ _ _ (x .entry-of .ensures) (line .before .before .survey-at .ensures)) (line .put-line .ensures .0)) in
+    let read = line .before .before .before .before in
+    let top = read .before .before in
+    let lines = then (top .loop .inv .2) (retext (line-is _ _ _ _ _ (ap (λ (f : Fields). f .entry) (read .fields-of .ensures)) (line .before .before .survey-at .ensures)) (line .put-line .ensures .0)) in
     (omega arith, omega (arith, line .put-line .ensures .1), retext (sym (join-step _ _)) lines)
 
 active-in-requires : tie.Need-active-in-requires Inv-loop μ-loop
@@ -104,7 +105,7 @@ put-table-spec =
     slice-aggregate-put
     put-requires
     loop-holds
-    entry-of-requires
+    fields-of-requires
     survey-at-requires
     put-line-requires
     add-i

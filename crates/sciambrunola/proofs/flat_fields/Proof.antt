@@ -3,14 +3,11 @@ use borrow.Author.Needs.{needs}
 use Rattle.sciambrunola.proofs.flat_fields.Statement.{statement}
 use Rattle.sciambrunola.proofs.flat_fields.Tie as tie
 
-enum-known-fields : tie.Need-enum-known-fields
-enum-known-fields c = search needs
+enum-known-reading : tie.Need-enum-known-reading
+enum-known-reading c = search needs
 
-enum-known-fields-2 : tie.Need-enum-known-fields-2
-enum-known-fields-2 c = search needs
-
-cast-t6 : tie.Need-cast-t6
-cast-t6 c = search needs
+enum-known-reading-2 : tie.Need-enum-known-reading-2
+enum-known-reading-2 c = search needs
 
 cast-t7 : tie.Need-cast-t7
 cast-t7 c = search needs
@@ -30,24 +27,27 @@ cast-t11 c = search needs
 cast-t12 : tie.Need-cast-t12
 cast-t12 c = search needs
 
+cast-t13 : tie.Need-cast-t13
+cast-t13 c = search needs
+
 returns : tie.Need-returns
-returns c = rw (c .before .fields .given .1)
+returns c = rw (c .before .reading .given .1)
 
 returns-2 : tie.Need-returns-2
-returns-2 c = rw (c .before .before .before .before .before .before .before .before .fields2 .given .1)
+returns-2 c = rw (c .before .before .before .before .before .before .before .before .before .before .reading2 .given .1)
 
 pub flat-fields-spec : {M : Type 1} → statement M
 flat-fields-spec =
     tie.close
     (tie.spec
-    enum-known-fields
-    enum-known-fields-2
-    cast-t6
+    enum-known-reading
+    enum-known-reading-2
     cast-t7
     cast-t8
     cast-t9
     cast-t10
     cast-t11
     cast-t12
+    cast-t13
     returns
     returns-2)

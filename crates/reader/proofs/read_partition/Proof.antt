@@ -1,0 +1,35 @@
+-- `reader::read_partition` meets its contract: refusal 1, refusal 7, or the fields that were read. Assumes nothing.
+use mathlib.Core.Path.{sym, _∙_}
+use borrow.Author.Tests.{not-true, not-false}
+use borrow.Author.Needs.{needs}
+use Rattle.reader.specs.Laws.{bad-map, no-partition, fields-are}
+use Rattle.reader.proofs.read_partition.Statement.{statement}
+use Rattle.reader.proofs.read_partition.Tie as tie
+
+is-good-requires : tie.Need-is-good-requires
+is-good-requires c κs = search needs
+
+returns : tie.Need-returns
+returns c = sym (bad-map _ _ (sym (c .before .is-good .ensures) ∙ not-true _ (c .if1 .taken)))
+
+fields-of-requires : tie.Need-fields-of-requires
+fields-of-requires c κs = search needs
+
+cast-if2 : tie.Need-cast-if2
+cast-if2 c = search needs
+
+returns-2 : tie.Need-returns-2
+returns-2 c =
+    let read = c .before .before .before in
+    let good = sym (read .before .before .is-good .ensures) ∙ not-false _ (read .before .if1 .left) in
+    sym (no-partition _ _ good _ (read .fields-of .ensures) (c .if2 .taken))
+
+returns-3 : tie.Need-returns-3
+returns-3 c =
+    let read = c .before .before .before in
+    let good = sym (read .before .before .is-good .ensures) ∙ not-false _ (read .before .if1 .left) in
+    sym (fields-are _ _ good _ (read .fields-of .ensures) (c .if2 .left))
+
+pub read-partition-spec : {M : Type 1} → statement M
+read-partition-spec =
+    tie.close (tie.spec is-good-requires returns fields-of-requires cast-if2 returns-2 returns-3)
