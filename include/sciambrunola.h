@@ -40,9 +40,9 @@
  *               (33 to 64), offset E of the entries (8 to 128)
  *   8 up to E   zeros
  *   E on        P entries of 8 bytes, and nothing behind them: u16 first cell,
- *               u16 cells n, u8 kind (0 hardware, 1 software, 2 life cycle), u8
- *               flags (1 zeroizable, 2 secret, 4 HEK slot; higher bits zero), two
- *               zero bytes
+ *               u16 cells n, u8 kind (SCI_KIND_: 0 hardware, 1 software, 2 life
+ *               cycle), u8 flags (SCI_FLAG_: 1 zeroizable, 2 secret, 4 HEK slot;
+ *               higher bits zero), two zero bytes
  * First and n are even, n at least 4, and at least 6 if zeroizable. Entries
  * ascend without overlap and end by C; gaps are allowed. Life cycle is never
  * zeroizable, secret needs kind 0, a slot is zeroizable and secret.
@@ -62,28 +62,31 @@
  * The active slot is the first slot in map order that is not erased. The HEK is
  * available when there is an active slot and it is programmed.
  *
- * Refusal numbers. They are checked in ascending order and the lowest that
- * applies is answered. A refused call leaves everything that is lent as it was;
- * 15 alone leaves the fuses named there.
- *    1  the map breaks a rule above
- *    2  cells or marks are not as many as the map says; for the mailbox also
- *       the block is not SCI_BLOCK_BYTES long, or the response buffer is
- *       under SCI_LEAST_RESPONSE bytes
- *    3  unknown code
- *    4  the request has not its exact length
- *    5  wrong chksum
- *    6  reserved is not zero
- *    7  no such partition, or the cell starts no word
- *    8  the command may not touch it
- *    9  WRITE would clear a fuse
- *   10  slot change while keys are held
- *   11  KLOD, HEK not available
- *   12  KLOD, tag held already
- *   13  KLOD, no empty place
- *   14  KUNL, tag not held
- *   15  the erasure's indicator is short after its burn: it has fewer ones than
- *       the map's bound. Every fuse of the indicator that is not marked stuck is
- *       set, and all else is as it was
+ * Refusal numbers, each with the rest of its name behind SCI_REFUSAL_. They are
+ * checked in ascending order and the lowest that applies is answered. A refused
+ * call leaves everything that is lent as it was; 15 alone leaves the fuses named
+ * there.
+ *       SCI_REFUSAL_
+ *    1  MAP              the map breaks a rule above
+ *    2  LENGTHS          cells or marks are not as many as the map says; for the
+ *                        mailbox also the block is not SCI_BLOCK_BYTES long, or
+ *                        the response buffer is under SCI_LEAST_RESPONSE bytes
+ *    3  CODE             unknown code
+ *    4  REQUEST_LENGTH   the request has not its exact length
+ *    5  CHKSUM           wrong chksum
+ *    6  RESERVED         reserved is not zero
+ *    7  NOT_FOUND        no such partition, or the cell starts no word
+ *    8  FORBIDDEN        the command may not touch it
+ *    9  CLEARS_FUSE      WRITE would clear a fuse
+ *   10  KEYS_HELD        slot change while keys are held
+ *   11  NO_HEK           KLOD, HEK not available
+ *   12  TAG_HELD         KLOD, tag held already
+ *   13  NO_PLACE         KLOD, no empty place
+ *   14  TAG_NOT_HELD     KUNL, tag not held
+ *   15  INDICATOR_SHORT  the erasure's indicator is short after its burn: it has
+ *                        fewer ones than the map's bound. Every fuse of the
+ *                        indicator that is not marked stuck is set, and all else
+ *                        is as it was
  */
 #ifndef SCIAMBRUNOLA_H
 #define SCIAMBRUNOLA_H
@@ -104,25 +107,56 @@ extern "C" {
 /* The most partitions that a map has. */
 #define SCI_PARTITIONS 16
 
+/* sci_fields.kind, and the kind in the map */
+#define SCI_KIND_HARDWARE 0
+#define SCI_KIND_SOFTWARE 1
+#define SCI_KIND_LIFE_CYCLE 2
+
+/* Of these sci_fields.flags is the sum, and the flags in the map. */
+#define SCI_FLAG_ZEROIZABLE 1
+#define SCI_FLAG_SECRET 2
+#define SCI_FLAG_SLOT 4
+
+/* The refusal of any answer; 0 is none. The table above says what each means. */
+#define SCI_REFUSAL_MAP 1
+#define SCI_REFUSAL_LENGTHS 2
+#define SCI_REFUSAL_CODE 3
+#define SCI_REFUSAL_REQUEST_LENGTH 4
+#define SCI_REFUSAL_CHKSUM 5
+#define SCI_REFUSAL_RESERVED 6
+#define SCI_REFUSAL_NOT_FOUND 7
+#define SCI_REFUSAL_FORBIDDEN 8
+#define SCI_REFUSAL_CLEARS_FUSE 9
+#define SCI_REFUSAL_KEYS_HELD 10
+#define SCI_REFUSAL_NO_HEK 11
+#define SCI_REFUSAL_TAG_HELD 12
+#define SCI_REFUSAL_NO_PLACE 13
+#define SCI_REFUSAL_TAG_NOT_HELD 14
+#define SCI_REFUSAL_INDICATOR_SHORT 15
+
 /* states[i] of sci_states */
 #define SCI_STATE_ERASED 0
 #define SCI_STATE_TORN 1
 #define SCI_STATE_BLANK 2
 #define SCI_STATE_PROGRAMMED 3
 
-/* sci_answer.kind */
+/* sci_answer.kind. Why a command was refused is in sci_answer.refusal. */
 #define SCI_WORD 0
 #define SCI_DONE 1
 #define SCI_WITHHELD 2
 #define SCI_REFUSED 3
 
-/* sci_erasure.kind */
-#define SCI_ERASED 0
+/* sci_erasure.kind. SCI_ENDED says that the erasure ran to its end, and no more:
+ * The partition is erased only if short_pairs is 0; otherwise it is torn, and its
+ * seed may still be there. */
+#define SCI_ENDED 0
 #define SCI_CUT 1
-#define SCI_NOT_ERASED 2
+#define SCI_ERASURE_REFUSED 2
 /* sci_erasure.first_short, and the last field of FERS's response, where no pair
  * is short. */
 #define SCI_NO_CELL UINT32_C(0xFFFFFFFF)
+/* The active slot's partition in FSTA's response, where no slot is active. */
+#define SCI_NO_SLOT UINT32_C(0xFFFFFFFF)
 
 /* sci_reply.order */
 #define SCI_ORDER_NONE 0
@@ -146,8 +180,8 @@ typedef struct {
     uint32_t bound;      /* B, the ones of a pair that is not short */
     uint32_t first;      /* the partition's first cell, in the whole array */
     uint32_t length;     /* n, its number of cells */
-    uint32_t kind;       /* 0 hardware, 1 software, 2 life cycle */
-    uint32_t flags;      /* the sum of 1 zeroizable, 2 secret, 4 HEK slot */
+    uint32_t kind;       /* SCI_KIND_HARDWARE, _SOFTWARE or _LIFE_CYCLE */
+    uint32_t flags;      /* the sum of SCI_FLAG_ZEROIZABLE, _SECRET and _SLOT */
 } sci_fields;
 
 /* What sci_states answers beside its two arrays. */
@@ -163,15 +197,17 @@ typedef struct {
     uint64_t word;    /* the word, 0 unless a word is answered */
 } sci_answer;
 
-/* What an erasure answers. */
+/* What an erasure answers. Look at the kind first. SCI_ENDED: The partition is
+ * erased only if short_pairs is 0; otherwise it is torn, and its seed may still be
+ * there. Cut or refused, short_pairs is 0 and says nothing: sci_states does. */
 typedef struct {
-    uint32_t kind;        /* SCI_ERASED, SCI_CUT or SCI_NOT_ERASED, that is refused */
+    uint32_t kind;        /* SCI_ENDED, SCI_CUT or SCI_ERASURE_REFUSED */
     uint32_t refusal;     /* the refusal's number, 0 unless refused */
-    uint32_t short_pairs; /* pairs with fewer ones than the bound, 0 unless erased */
-    uint32_t first_short; /* erased: the first cell of the lowest short pair,
+    uint32_t short_pairs; /* pairs with fewer ones than the bound, 0 unless ended */
+    uint32_t first_short; /* ended: the first cell of the lowest short pair,
                              numbered in the whole array, or SCI_NO_CELL if there
                              is none; else 0 */
-    uint32_t burns;       /* burns carried out: all of them if erased; k + 1 if cut;
+    uint32_t burns;       /* burns carried out: all of them if ended; k + 1 if cut;
                              1 if refused with 15, else 0 */
 } sci_erasure;
 
@@ -249,9 +285,11 @@ sci_answer sci_zeroize(const uint8_t *image, size_t image_bytes,
  * Erasure of the partition of this number. Burns, in this order, every fuse
  * that is not marked stuck of the indicator, of each data word ascending, and
  * of the digest; no other fuse changes. A short word does not stop it, but a
- * short indicator does, with 15. Answers the short pairs that are left, those
- * of digest and indicator included, the first cell of the lowest of them, and
- * the number of burns, one for each word.
+ * short indicator does, with 15. Answers SCI_ENDED, the short pairs that are
+ * left, those of digest and indicator included, the first cell of the lowest of
+ * them, and the number of burns, one for each word.
+ * The partition is erased only if short_pairs is 0; otherwise it is torn, and its
+ * seed may still be there.
  * Asked for again, after a cut too, it begins at the indicator. It answers as
  * the first time, or as it would have if that one was cut, where no key is held
  * either time, the image and the marks are the same, and since then no other
@@ -284,8 +322,10 @@ sci_erasure sci_erase_cut(const uint8_t *image, size_t image_bytes,
                           uint32_t partition, uint32_t k, uint64_t mask);
 
 /*
- * A restart: empties the cache, all kinds and tags 0, and changes nothing else.
- * It cannot be refused.
+ * Call it when the drive has restarted, and the engine with it. Empties the
+ * cache, all kinds and tags 0, and changes nothing else. It cannot be refused.
+ * No order is given to the engine, which would keep its keys if it had not
+ * restarted: to free a slot in operation use KUNL or CLKC.
  */
 void sci_restart(uint8_t kinds[SCI_PLACES], uint64_t tags[SCI_PLACES]);
 
@@ -305,7 +345,7 @@ void sci_restart(uint8_t kinds[SCI_PLACES], uint64_t tags[SCI_PLACES]);
  *                                                          20 bytes
  *   SCI_FSTA  chksum, reserved                             ..., active slot's
  *             8 bytes                                      partition or
- *                                                          0xFFFFFFFF, HEK
+ *                                                          SCI_NO_SLOT, HEK
  *                                                          available 1 or 0
  *                                                          20 bytes
  *
@@ -318,8 +358,10 @@ void sci_restart(uint8_t kinds[SCI_PLACES], uint64_t tags[SCI_PLACES]);
  * block has the MEK, the tag in the first 8 bytes of METD, and zeros.
  * KUNL frees the lowest place that holds the tag; the engine is to unload, and
  * the block is as for a load with the MEK zero.
- * FERS is sci_erase of the partition that it names; the block and the cache are
- * unchanged, and there is no order for the engine.
+ * FERS is sci_erase of the partition that it names: it is erased only if the
+ * response's short pairs are 0; otherwise it is torn, and its seed may still be
+ * there. The block and the cache are unchanged, and there is no order for the
+ * engine.
  * FSTA changes nothing but the response; there is no order for the engine.
  *
  * The response buffer has SCI_LEAST_RESPONSE bytes or more, the block has

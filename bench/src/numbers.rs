@@ -1,11 +1,10 @@
 //! Answers as numbers, so that those of all sides can be compared and summed.
 
 use crate::plain::{Entry, Header, Refusal};
+use sciambrunola::NO_CELL;
 
 /// An answer: the refusal's number or 0, then what the C header's structs hold.
 pub type Said = [u32; 8];
-
-const NO_CELL: u32 = 0xFFFF_FFFF;
 
 /// An answer that has its numbers.
 pub trait Numbered {
@@ -47,13 +46,13 @@ pub fn accepted(length: usize, [order, place, timeout]: [u32; 3]) -> Said {
 }
 
 /// The numbers of the answers that stand where this is called under the names
-/// that library and model both give them.
+/// that library and model both give them, but for the erasure that ran to its end.
 macro_rules! numbered {
-    () => {
+    ($ended:ident) => {
         impl Numbered for Erasure {
             fn numbers(self) -> Said {
                 match self {
-                    Erasure::Erased { short_pairs, first_short, burns } => {
+                    Erasure::$ended { short_pairs, first_short, burns } => {
                         erased(short_pairs, first_short, burns)
                     }
                     Erasure::Cut { .. } => unreachable!("nothing is cut here"),
@@ -85,7 +84,7 @@ mod of_library {
     use super::{accepted, erased, refused, Numbered, Said};
     use sciambrunola::{Erasure, Order, Reply};
 
-    numbered!();
+    numbered!(Ended);
 }
 
 mod of_model {
@@ -93,5 +92,5 @@ mod of_model {
     use model::erasure::Erasure;
     use model::mailbox::{Order, Reply};
 
-    numbered!();
+    numbered!(Erased);
 }

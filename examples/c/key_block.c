@@ -1,12 +1,16 @@
 /*
  * The key block from C, on the small drive of document 01: its map and its states
- * are read, a key is loaded, an erasure is refused while the key is held, another
- * is cut by a power failure, and the next one ends it. Each step prints a line.
- * main, at the end, tells the story.
+ * are read, a key is loaded, an erasure is refused while the key is held, the drive
+ * restarts, another erasure is cut by a power failure, and the next one ends it.
+ * Each step prints a line; the first that is not answered as it should be ends the
+ * program with a failing status. main, at the end, tells the story.
  *
  * From the root of the repository, once the archive is built:
- *   cc -std=c99 -I include examples/c/key_block.c target/staticlib/libsciambrunola.a -o key_block
- *   ./key_block
+ *   cc -std=c99 -I include examples/c/key_block.c target/staticlib/libsciambrunola.a \
+ *     -o target/key_block
+ *   target/key_block
+ * An argument is a stuck mark for cell 1, in hexadecimal: with 0F word 0 gets 60 of
+ * its 64 ones, which is enough; with 1F it gets 59, and the slot is not erased.
  */
 #include "sciambrunola.h"
 
@@ -17,8 +21,8 @@
 #include <string.h>
 
 #define CELLS 12
-#define SLOT 0       /* the partition that holds the secret seed */
-#define KEYS_HELD 10 /* the refusal of an erasure while a key is held */
+#define SLOT 0 /* the partition that holds the secret seed */
+#define SLOT_FLAGS (SCI_FLAG_ZEROIZABLE + SCI_FLAG_SECRET + SCI_FLAG_SLOT)
 #define MEK_BYTES 64
 
 /* The map says what lies where in the fuses. All but kind and flags are numbers
@@ -28,12 +32,12 @@ static const uint8_t map[] = {
     12, 0, /* cells */
     60, 0, /* bound: a pair of cells with fewer ones is short */
     8, 0,  /* the entries begin at byte 8 */
-    0, 0, 6, 0, 0, 1 + 2 + 4, 0, 0, /* from cell 0 on 6 cells, hardware; zeroizable, secret, slot */
-    6, 0, 6, 0, 1, 0, 0, 0          /* from cell 6 on 6 cells, software; no flags */
+    0, 0, 6, 0, SCI_KIND_HARDWARE, SLOT_FLAGS, 0, 0, /* from cell 0 on 6 cells */
+    6, 0, 6, 0, SCI_KIND_SOFTWARE, 0, 0, 0           /* from cell 6 on 6 cells; no flags */
 };
 
-/* The library keeps nothing. The fuses, one of them set, their stuck marks, here
- * none, and the key cache, here empty, are ours, and lent to it for each call. */
+/* The library keeps nothing. The fuses, one of them set, their stuck marks, and the
+ * key cache, here empty, are ours, and lent to it for each call. */
 static uint32_t cells[CELLS] = {1};
 static uint32_t marks[CELLS];
 static uint8_t kinds[SCI_PLACES];
@@ -42,11 +46,23 @@ static uint64_t tags[SCI_PLACES];
 static uint8_t response[SCI_LEAST_RESPONSE];
 static uint8_t block[SCI_BLOCK_BYTES];
 
-/* A step that was refused though it should not have been. */
+/* A step that was not answered as it should have been; most likely it was refused. */
 static bool failed(const char *step, uint32_t refusal)
 {
-    fprintf(stderr, "%s: refused %" PRIu32 "\n", step, refusal);
+    fprintf(stderr, "%s: refusal %" PRIu32 "\n", step, refusal);
     return false;
+}
+
+static bool read_partition(uint32_t i)
+{
+    sci_fields fields = sci_partition(map, sizeof map, i);
+    if (fields.refusal != 0) {
+        return failed("partition", fields.refusal);
+    }
+    printf("partition %" PRIu32 ": first cell %" PRIu32 ", %" PRIu32 " cells, kind %" PRIu32
+           ", flags %" PRIu32 "\n",
+           i, fields.first, fields.length, fields.kind, fields.flags);
+    return true;
 }
 
 static bool read_map(void)
@@ -58,11 +74,10 @@ static bool read_map(void)
     }
     printf("map: %" PRIu32 " partitions, %" PRIu32 " cells, bound %" PRIu32 "\n",
            fields.partitions, fields.cells, fields.bound);
-    for (i = 0; i < fields.partitions; i++) { /* these are there, so none is refused */
-        fields = sci_partition(map, sizeof map, i);
-        printf("partition %" PRIu32 ": first cell %" PRIu32 ", %" PRIu32 " cells, kind %" PRIu32
-               ", flags %" PRIu32 "\n",
-               i, fields.first, fields.length, fields.kind, fields.flags);
+    for (i = 0; i < fields.partitions; i++) {
+        if (!read_partition(i)) {
+            return false;
+        }
     }
     return true;
 }
@@ -128,7 +143,7 @@ static bool load_key(uint64_t tag, const uint8_t mek[MEK_BYTES])
     put_field(request + 16, (uint32_t)(tag >> 32));
     memcpy(request + 20, mek, MEK_BYTES);
     reply = ask(SCI_KLOD, request, sizeof request);
-    if (reply.refusal != 0) {
+    if (reply.refusal != 0 || reply.order != SCI_ORDER_LOAD) {
         return failed("KLOD", reply.refusal);
     }
     /* Here a drive writes the block to the engine's registers, orders the load, and
@@ -137,7 +152,7 @@ static bool load_key(uint64_t tag, const uint8_t mek[MEK_BYTES])
     return true;
 }
 
-/* Which slot is active, 0xFFFFFFFF if none is, and whether its key is available. */
+/* Which slot is active, SCI_NO_SLOT if none is, and whether its key is available. */
 static bool ask_for_status(void)
 {
     uint8_t request[8] = {0}; /* chksum, reserved */
@@ -150,17 +165,35 @@ static bool ask_for_status(void)
     return true;
 }
 
-/* Erases the slot, and gives the number that it was refused with, else 0. */
-static uint32_t erase_slot(void)
+static sci_erasure erase(void)
 {
     sci_erasure erasure = sci_erase(map, sizeof map, cells, CELLS, marks, CELLS, kinds, tags, SLOT);
-    if (erasure.refusal != 0) {
-        printf("erasure: refused %" PRIu32 "\n", erasure.refusal);
-    } else {
+    if (erasure.kind == SCI_ENDED) {
         printf("erasure: %" PRIu32 " short, %" PRIu32 " burns\n", erasure.short_pairs,
                erasure.burns);
+    } else {
+        printf("erasure: refused %" PRIu32 "\n", erasure.refusal);
     }
-    return erasure.refusal;
+    return erasure;
+}
+
+/* While a key is held the slot must not change. */
+static bool erase_with_key_held(void)
+{
+    sci_erasure erasure = erase();
+    if (erasure.kind != SCI_ERASURE_REFUSED || erasure.refusal != SCI_REFUSAL_KEYS_HELD) {
+        return failed("erasure with a key held", erasure.refusal);
+    }
+    return true;
+}
+
+/* The drive restarts, and the engine with it: no key is held any more. A drive that
+ * goes on unloads its keys with KUNL or CLKC, which have an order for the engine. */
+static bool restart(void)
+{
+    sci_restart(kinds, tags);
+    printf("restart: place 0 is %s\n", kinds[0] == 0 ? "empty" : "held");
+    return kinds[0] == 0;
 }
 
 /* What a power failure leaves that comes at burn 1, the first data word, when its
@@ -176,18 +209,44 @@ static bool erase_slot_cut(void)
     return true;
 }
 
-int main(void)
+/* Erases the slot. That the erasure ended is not enough: with a short pair the slot
+ * is torn, and its seed may still be there. */
+static bool erase_slot(void)
+{
+    sci_erasure erasure = erase();
+    bool listed = list_states();
+    if (erasure.kind != SCI_ENDED) {
+        return failed("erasure", erasure.refusal);
+    }
+    if (erasure.short_pairs != 0) {
+        fprintf(stderr, "erasure: the slot is torn, its seed may still be there\n");
+        return false;
+    }
+    return listed;
+}
+
+/* Puts the mark on cell 1 that the argument names, if there is one. */
+static bool take_mark(int argc, char **argv)
+{
+    char *end;
+    if (argc < 2) {
+        return true;
+    }
+    marks[1] = (uint32_t)strtoul(argv[1], &end, 16);
+    if (argc > 2 || end == argv[1] || *end != '\0') {
+        fprintf(stderr, "usage: key_block [mark of cell 1, in hexadecimal]\n");
+        return false;
+    }
+    return true;
+}
+
+int main(int argc, char **argv)
 {
     uint8_t mek[MEK_BYTES];
     bool done;
     memset(mek, 0x4B, sizeof mek); /* stands for a key */
-    done = read_map() && list_states() && ask_for_status()
-           && load_key(UINT64_C(0x1122334455667788), mek);
-    if (done && erase_slot() == KEYS_HELD) {
-        sci_restart(kinds, tags); /* empties the key cache, so that the slot may change */
-        printf("restart: place 0 is %s\n", kinds[0] == 0 ? "empty" : "held");
-    }
-    done = done && erase_slot_cut() && list_states()
-           && erase_slot() == 0 && list_states() && ask_for_status();
+    done = take_mark(argc, argv) && read_map() && list_states() && ask_for_status()
+           && load_key(UINT64_C(0x1122334455667788), mek) && erase_with_key_held() && restart()
+           && erase_slot_cut() && list_states() && erase_slot() && ask_for_status();
     return done ? EXIT_SUCCESS : EXIT_FAILURE;
 }

@@ -1,21 +1,25 @@
 //! The key block from Rust, on the small drive of document 01: its map and its
 //! states are read, a key is loaded, an erasure is refused while the key is held,
-//! another is cut by a power failure, and the next one ends it. Each step prints
-//! a line. `main`, at the end, tells the story.
+//! the drive restarts, another erasure is cut by a power failure, and the next one
+//! ends it. Each step prints a line; the first that is not answered as it should
+//! be ends the program with a failing status. `story`, at the end, tells it.
 //!
 //! From the root of the repository, once the archive is built:
 //!   cargo run --offline --release --manifest-path rust/Cargo.toml --bin key_block
+//! An argument, behind `--`, is a stuck mark for cell 1, in hexadecimal: with 0F
+//! word 0 gets 60 of its 64 ones, which is enough; with 1F it gets 59, and the slot
+//! is not erased.
 #![forbid(unsafe_code)]
 
+use sciambrunola::{code, flag, kind, refusal, BLOCK_BYTES, LEAST_RESPONSE};
 use sciambrunola::{erase, erase_cut, mailbox, partition, restart, states};
 use sciambrunola::{Cache, Erasure, Fields, Order, Reply, States};
 use std::fmt::Debug;
+use std::process::ExitCode;
 
-/// Codes of mailbox commands.
-const KLOD: u32 = 0x4B4C_4F44;
-const FSTA: u32 = 0x4653_5441;
 /// The partition that holds the secret seed.
 const SLOT: u32 = 0;
+const SLOT_FLAGS: u8 = (flag::ZEROIZABLE + flag::SECRET + flag::SLOT) as u8;
 
 /// The map says what lies where in the fuses. All but kind and flags are numbers
 /// of two bytes, low byte first.
@@ -25,21 +29,21 @@ const MAP: [u8; 24] = [
     12, 0, // cells
     60, 0, // bound: a pair of cells with fewer ones is short
     8, 0,  // the entries begin at byte 8
-    0, 0, 6, 0, 0, 1 + 2 + 4, 0, 0, // from cell 0 on 6 cells, hardware; zeroizable, secret, slot
-    6, 0, 6, 0, 1, 0, 0, 0,         // from cell 6 on 6 cells, software; no flags
+    0, 0, 6, 0, kind::HARDWARE as u8, SLOT_FLAGS, 0, 0, // from cell 0 on 6 cells
+    6, 0, 6, 0, kind::SOFTWARE as u8, 0, 0, 0,          // from cell 6 on 6 cells; no flags
 ];
 
 /// The library keeps nothing: all of this is ours, and lent to it for each call.
 struct Drive {
     /// The fuses; one is set.
     cells: [u32; 12],
-    /// Their stuck marks; there are none.
+    /// Their stuck marks.
     marks: [u32; 12],
     /// The key cache; it is empty.
     cache: Cache,
     /// The buffers of the mailbox.
-    response: [u8; 20],
-    block: [u8; 128],
+    response: [u8; LEAST_RESPONSE],
+    block: [u8; BLOCK_BYTES],
 }
 
 /// What a step comes to; the text says which one failed.
@@ -58,15 +62,19 @@ fn read_map() -> Step {
         }
         other => return failed("map", other),
     };
-    for i in 0..partitions {
-        // These are there, so none is refused.
-        if let Fields::Partition { first, length, kind, flags, .. } = partition(&MAP, i) {
+    (0..partitions).try_for_each(read_partition)
+}
+
+fn read_partition(i: u32) -> Step {
+    match partition(&MAP, i) {
+        Fields::Partition { first, length, kind, flags, .. } => {
             println!(
                 "partition {i}: first cell {first}, {length} cells, kind {kind}, flags {flags}"
             );
+            Ok(())
         }
+        other => failed("partition", other),
     }
-    Ok(())
 }
 
 impl Drive {
@@ -102,7 +110,7 @@ impl Drive {
         put_field(&mut request, 12, tag as u32);
         put_field(&mut request, 16, (tag >> 32) as u32);
         request[20..].copy_from_slice(mek);
-        match self.ask(KLOD, &mut request) {
+        match self.ask(code::KLOD, &mut request) {
             Reply::Accepted { order: Order::Load { place, timeout }, .. } => {
                 // Here a drive writes the block to the engine's registers, orders the
                 // load, and wipes request and block, which hold the key.
@@ -113,27 +121,60 @@ impl Drive {
         }
     }
 
-    /// Which slot is active, 0xFFFFFFFF if none is, and whether its key is available.
+    /// Which slot is active, `NO_SLOT` if none is, and whether its key is available.
     fn ask_for_status(&mut self) -> Step {
         let mut request = [0; 8]; // chksum, reserved
-        if let Reply::Refused(number) = self.ask(FSTA, &mut request) {
-            return failed("FSTA", number);
+        match self.ask(code::FSTA, &mut request) {
+            Reply::Accepted { order: Order::None, .. } => {}
+            other => return failed("FSTA", other),
         }
         let (active, available) = (field(&self.response, 12), field(&self.response, 16));
         println!("FSTA: active slot 0x{active:08X}, HEK available {available}");
         Ok(())
     }
 
-    fn erase_slot(&mut self) -> Erasure {
+    fn erase(&mut self) -> Erasure {
         let erasure = erase(&MAP, &mut self.cells, &self.marks, &self.cache, SLOT);
         match erasure {
-            Erasure::Erased { short_pairs, burns, .. } => {
+            Erasure::Ended { short_pairs, burns, .. } => {
                 println!("erasure: {short_pairs} short, {burns} burns");
             }
             Erasure::Refused { number, .. } => println!("erasure: refused {number}"),
             Erasure::Cut { .. } => {} // this erasure is not cut
         }
         erasure
+    }
+
+    /// While a key is held the slot must not change.
+    fn erase_with_key_held(&mut self) -> Step {
+        match self.erase() {
+            Erasure::Refused { number: refusal::KEYS_HELD, .. } => Ok(()),
+            other => failed("erasure with a key held", other),
+        }
+    }
+
+    /// The drive restarts, and the engine with it: no key is held any more. A drive
+    /// that goes on unloads its keys with KUNL or CLKC, which have an order for the
+    /// engine.
+    fn restart(&mut self) -> Step {
+        restart(&mut self.cache);
+        let held = self.cache.place(0);
+        println!("restart: place 0 is {}", held.map_or("empty", |_| "held"));
+        held.map_or(Ok(()), |tag| failed("restart", tag))
+    }
+
+    /// Erases the slot. That the erasure ended is not enough: with a short pair the
+    /// slot is torn, and its seed may still be there.
+    fn erase_slot(&mut self) -> Step {
+        let erasure = self.erase();
+        self.list_states()?;
+        match erasure {
+            Erasure::Ended { short_pairs: 0, .. } => Ok(()),
+            Erasure::Ended { .. } => {
+                Err("erasure: the slot is torn, its seed may still be there".to_string())
+            }
+            other => failed("erasure", other),
+        }
     }
 
     /// What a power failure leaves that comes at burn 1, the first data word, when
@@ -159,24 +200,40 @@ fn field(bytes: &[u8], at: usize) -> u32 {
     u32::from_le_bytes([bytes[at], bytes[at + 1], bytes[at + 2], bytes[at + 3]])
 }
 
-fn main() -> Step {
-    let cells = [1, 0, 0, 0, 0, 0, 0, 0, 0, 0, 0, 0];
-    let (marks, cache) = ([0; 12], Cache::default());
-    let mut drive = Drive { cells, marks, cache, response: [0; 20], block: [0; 128] };
+/// The mark for cell 1 that the argument names, 0 if there is none.
+fn mark() -> Result<u32, String> {
+    let arguments: Vec<String> = std::env::args().skip(1).collect();
+    let read = match arguments.as_slice() {
+        [] => Some(0),
+        [mark] => u32::from_str_radix(mark, 16).ok(),
+        _ => None,
+    };
+    read.ok_or_else(|| "usage: key_block [mark of cell 1, in hexadecimal]".to_string())
+}
+
+fn main() -> ExitCode {
+    match story() {
+        Ok(()) => ExitCode::SUCCESS,
+        Err(text) => {
+            eprintln!("{text}");
+            ExitCode::FAILURE
+        }
+    }
+}
+
+fn story() -> Step {
+    let (mut cells, mut marks) = ([0; 12], [0; 12]);
+    (cells[0], marks[1]) = (1, mark()?);
+    let (response, block) = ([0; LEAST_RESPONSE], [0; BLOCK_BYTES]);
+    let mut drive = Drive { cells, marks, cache: Cache::default(), response, block };
     read_map()?;
     drive.list_states()?;
     drive.ask_for_status()?;
     drive.load_key(0x1122_3344_5566_7788, &[0x4B; 64])?; // stands for a key
-    if let Erasure::Refused { number: 10, .. } = drive.erase_slot() {
-        // A key is held. A restart empties the key cache, so that the slot may change.
-        restart(&mut drive.cache);
-        println!("restart: place 0 is {}", drive.cache.place(0).map_or("empty", |_| "held"));
-    }
+    drive.erase_with_key_held()?;
+    drive.restart()?;
     drive.erase_slot_cut()?;
     drive.list_states()?;
-    if let Erasure::Refused { number, .. } = drive.erase_slot() {
-        return failed("erasure", number);
-    }
-    drive.list_states()?;
+    drive.erase_slot()?;
     drive.ask_for_status()
 }

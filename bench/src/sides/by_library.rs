@@ -5,7 +5,7 @@ use crate::numbers::{refused, Numbered, Said};
 use crate::row::Call;
 use checks::readings::SAFE;
 use model::lent::Lent;
-use sciambrunola::{Cache, States};
+use sciambrunola::{Cache, States, PLACES};
 
 /// The library with what it is lent.
 pub struct Library {
@@ -61,7 +61,7 @@ impl Side for Library {
             }
             _ => vec![],
         };
-        let places = (0..16).map(|i| self.cache.place(i)).collect();
+        let places = (0..PLACES).map(|i| self.cache.place(i)).collect();
         Left { cells: drive.cells, places, block, response, states }
     }
 }

@@ -7,6 +7,7 @@ use model::mailbox::request::{Request, Values};
 use model::map::Map;
 use sciambrunola::{direct, erase, erase_cut, mailbox, partition, states};
 use sciambrunola::{Answer, Cache, Command, Erasure, Fields, Reply, State, States};
+use sciambrunola::{BLOCK_BYTES, LEAST_RESPONSE};
 
 /// The partition that is a slot; the other one is software.
 pub const SLOT: u32 = 0;
@@ -15,14 +16,15 @@ pub const SLOT: u32 = 0;
 pub struct Small {
     drive: Drive,
     pub cache: Cache,
-    block: [u8; 128],
-    pub response: [u8; 20],
+    block: [u8; BLOCK_BYTES],
+    pub response: [u8; LEAST_RESPONSE],
 }
 
 impl Small {
     /// Block and response buffer hold bytes that no answer has.
     pub fn new(cache: Cache) -> Small {
-        Small { drive: Drive::small(), cache, block: [0xB1; 128], response: [0xA5; 20] }
+        let (block, response) = ([0xB1; BLOCK_BYTES], [0xA5; LEAST_RESPONSE]);
+        Small { drive: Drive::small(), cache, block, response }
     }
 
     /// The drive with an empty cache and this mark on a cell.

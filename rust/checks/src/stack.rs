@@ -7,7 +7,7 @@ use crate::painted::depth;
 use crate::small::Small;
 use model::mailbox::fields::Command;
 use model::mailbox::request::{Request, Values};
-use sciambrunola::{Answer, Cache, Erasure, Fields, Reply, States};
+use sciambrunola::{Answer, Cache, Erasure, Fields, Reply, States, PLACES};
 
 /// A software word of the small drive, which READ and WRITE may touch, and a
 /// slot word, which ZEROIZE may.
@@ -48,7 +48,7 @@ pub fn listed(used: &[Used]) -> String {
 
 /// The small drive with this tag held in one place, or with an empty cache.
 fn small(held: Option<u64>) -> Small {
-    let mut places = [None; 16];
+    let mut places = [None; PLACES];
     places[9] = held;
     Small::new(Cache::from_places(places))
 }

@@ -3,12 +3,17 @@
 //! answers, case 7 what the cut leaves and what the next erasure answers; a load
 //! takes place 0 ("Active slot and key cache"), an erasure of the slot is then
 //! refused with 10, and an erased slot is not active.
+//!
+//! With a stuck mark on cell 1 the last erasure is that of case 3 (0F: 60 of 64
+//! ones, erased) or of case 4 (1F: 59 of 64 ones, short 1, torn), and an example
+//! that leaves the slot torn must fail.
 
-use checks::runner::run;
 use checks::tools;
-use std::path::Path;
+use std::path::{Path, PathBuf};
+use std::process::Command;
 
-const EXPECTED: &str = "\
+/// Up to the power failure; the states after it have short word 0 and digest.
+const BEGINNING: &str = "\
 map: 2 partitions, 12 cells, bound 60
 partition 0: first cell 0, 6 cells, kind 0, flags 7
 partition 1: first cell 6, 6 cells, kind 1, flags 0
@@ -19,22 +24,58 @@ erasure: refused 10
 restart: place 0 is empty
 erasure cut: 2 burns
 states: 0 torn, 2 short; 1 blank, 3 short
+";
+
+const ERASED: &str = "\
 erasure: 0 short, 3 burns
 states: 0 erased, 0 short; 1 blank, 3 short
 FSTA: active slot 0xFFFFFFFF, HEK available 0
 ";
 
-fn printed(program: &Path) -> String {
-    String::from_utf8(run(program, &[])).expect("the example prints text")
+const TORN: &str = "\
+erasure: 1 short, 3 burns
+states: 0 torn, 1 short; 1 blank, 3 short
+";
+
+/// What the examples say of it on standard error.
+const WARNING: &str = "erasure: the slot is torn, its seed may still be there\n";
+
+/// What a run ended with: its exit status, and what it printed and warned.
+type Ran = (Option<i32>, String, String);
+
+fn run(program: &Path, arguments: &[&str]) -> Ran {
+    let output = Command::new(program).args(arguments).output().expect("the example starts");
+    let text = |bytes| String::from_utf8(bytes).expect("the example prints text");
+    (output.status.code(), text(output.stdout), text(output.stderr))
+}
+
+fn ends(status: i32, end: &str, warning: &str) -> Ran {
+    (Some(status), format!("{BEGINNING}{end}"), warning.to_string())
+}
+
+/// Runs an example with no mark, with those of cases 3 and 4, and with arguments
+/// that are none.
+fn check(program: &Path) {
+    assert_eq!(run(program, &[]), ends(0, ERASED, ""));
+    assert_eq!(run(program, &["0F"]), ends(0, ERASED, ""));
+    assert_eq!(run(program, &["1F"]), ends(1, TORN, WARNING));
+    for wrong in [&["no mark"][..], &[""], &["1F", "1F"]] {
+        let (status, printed, warning) = run(program, wrong);
+        assert_eq!((status, printed.as_str()), (Some(1), ""), "{wrong:?}");
+        assert!(warning.starts_with("usage: "), "{warning}");
+    }
+}
+
+fn c_example() -> PathBuf {
+    tools::compiled("examples/c/key_block.c", Path::new(env!("CARGO_TARGET_TMPDIR")))
 }
 
 #[test]
-fn c_example_prints_what_the_document_says() {
-    let directory = Path::new(env!("CARGO_TARGET_TMPDIR"));
-    assert_eq!(printed(&tools::compiled("examples/c/key_block.c", directory)), EXPECTED);
+fn c_example_does_what_the_document_says() {
+    check(&c_example());
 }
 
 #[test]
-fn rust_example_prints_what_the_document_says() {
-    assert_eq!(printed(Path::new(env!("CARGO_BIN_EXE_key_block"))), EXPECTED);
+fn rust_example_does_what_the_document_says() {
+    check(Path::new(env!("CARGO_BIN_EXE_key_block")));
 }

@@ -10,6 +10,7 @@ use checks::histories::{all_hold, Attempt, History};
 use checks::small::SLOT;
 use model::drive::Drive;
 use model::erasure::{Cut, Erase};
+use sciambrunola::BLOCK_BYTES;
 
 /// The marked cell and its mark: none, then cases 3, 4 and 5.
 const STUCK: [(usize, u32); 4] = [(0, 0), (1, 0x0F), (1, 0x1F), (5, 0x1F)];
@@ -26,7 +27,7 @@ fn erase(cut: Option<Cut>) -> Attempt {
 }
 
 fn fers() -> Attempt {
-    Attempt::fers(requests::fers(SLOT), (vec![0xB1; 128], vec![0xA5; 24]))
+    Attempt::fers(requests::fers(SLOT), (vec![0xB1; BLOCK_BYTES], vec![0xA5; 24]))
 }
 
 /// What is asked for after, or before, this cut.

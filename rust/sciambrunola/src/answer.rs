@@ -1,6 +1,7 @@
 //! What the key block answers (document 01, "Direct commands", "Erasing a
 //! partition" and "Mailbox").
 
+use crate::constants::NO_CELL;
 use crate::raw;
 
 /// What a direct command answers.
@@ -21,9 +22,11 @@ pub enum Answer {
 #[derive(Clone, Copy, Debug, PartialEq, Eq)]
 pub enum Erasure {
     /// Ran to its end: every fuse of the partition that is not stuck is set.
-    Erased {
-        /// The pairs with fewer ones than the map's bound. The partition's
-        /// state is erased if this is 0, else torn.
+    ///
+    /// The partition is erased only if `short_pairs` is 0; otherwise it is torn,
+    /// and its seed may still be there.
+    Ended {
+        /// The pairs with fewer ones than the map's bound.
         short_pairs: u32,
         /// The first cell of the lowest of them, none if there is none.
         first_short: Option<u32>,
@@ -100,9 +103,9 @@ impl Answer {
 impl Erasure {
     pub(crate) fn from_raw(erasure: raw::Erasure) -> Erasure {
         let raw::Erasure { kind, refusal, short_pairs, first_short, burns } = erasure;
-        let first_short = (first_short != raw::NO_CELL).then_some(first_short);
+        let first_short = (first_short != NO_CELL).then_some(first_short);
         match kind {
-            raw::ERASED => Erasure::Erased { short_pairs, first_short, burns },
+            raw::ENDED => Erasure::Ended { short_pairs, first_short, burns },
             raw::CUT => Erasure::Cut { burns },
             _ => Erasure::Refused { number: refusal, burns },
         }

@@ -1,7 +1,6 @@
 //! The key cache (document 01, "Active slot and key cache").
 
-/// The number of places.
-pub(crate) const PLACES: usize = 16;
+use crate::constants::PLACES;
 
 /// The kind of a place that holds a tag.
 const HELD: u8 = 1;
@@ -20,7 +19,7 @@ impl Cache {
     /// The tag that a place holds, none if it is empty.
     ///
     /// # Panics
-    /// If there is no such place, that is for an `i` of 16 or more.
+    /// If there is no such place, that is for an `i` of [`PLACES`] or more.
     pub fn place(&self, i: usize) -> Option<u64> {
         (self.kinds[i] != EMPTY).then_some(self.tags[i])
     }

@@ -17,9 +17,9 @@ pub enum Fields {
         first: u32,
         /// Its number of cells n.
         length: u32,
-        /// 0 hardware, 1 software, 2 life cycle.
+        /// Hardware, software or life cycle: see [`kind`](crate::kind).
         kind: u32,
-        /// The sum of 1 zeroizable, 2 secret, 4 HEK slot.
+        /// The sum of its flags: see [`flag`](crate::flag).
         flags: u32,
     },
     /// Refused with this number: 1 for a bad map, 7 for no such partition.

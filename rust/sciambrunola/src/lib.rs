@@ -4,8 +4,8 @@
 //!
 //! Every function answers for any bytes and any lengths, and a refusal changes
 //! nothing that is lent, save that 15 leaves the indicator burned. The refusal
-//! numbers, the fields of the requests and the lengths are those of document 01;
-//! `include/sciambrunola.h` has them in short. The work itself is done by the
+//! numbers (see [`refusal`]), the fields of the requests and the lengths are those
+//! of document 01; `include/sciambrunola.h` has them in short. The work itself is done by the
 //! proved archive; here are only the types that make its calls safe.
 //!
 //! The archive is built for x86-64 Linux (System V calling convention),
@@ -17,6 +17,7 @@
 
 mod answer;
 mod cache;
+mod constants;
 mod fields;
 #[allow(unsafe_code)]
 mod raw;
@@ -24,6 +25,8 @@ mod states;
 
 pub use answer::{Answer, Erasure, Order, Reply};
 pub use cache::Cache;
+pub use constants::{code, flag, kind, refusal};
+pub use constants::{BLOCK_BYTES, LEAST_RESPONSE, NO_CELL, NO_SLOT, PARTITIONS, PLACES};
 pub use fields::Fields;
 pub use states::{Listing, State, States};
 
@@ -88,6 +91,8 @@ pub fn direct(
 ///
 /// A short word does not stop it; a short indicator does, with refusal 15, which
 /// leaves the indicator burned. Any other refusal changes nothing.
+///
+/// It may end with the partition torn: see [`Erasure::Ended`].
 pub fn erase(
     image: &[u8],
     cells: &mut [u32],
@@ -117,17 +122,22 @@ pub fn erase_cut(
     Erasure::from_raw(raw::erase_cut(drive, cache, partition, k, mask))
 }
 
-/// A restart: empties the cache, and changes nothing else.
+/// For when the drive has restarted, and the engine with it: empties the cache,
+/// and changes nothing else.
+///
+/// No order is given to the engine. To free a slot in operation use KUNL or CLKC.
 pub fn restart(cache: &mut Cache) {
     raw::restart(cache);
 }
 
-/// Carries out the mailbox command that `code` names, with this request.
+/// Carries out the mailbox command that `code` names (see [`code`]), with this
+/// request. The block has [`BLOCK_BYTES`], the response [`LEAST_RESPONSE`] or more.
 ///
 /// An accepted command writes its response to the start of `response` and,
 /// where it has an order for the engine, the engine block to `block`. Nothing
 /// else changes but the cache and, by FERS, which is [`erase`], the cells; and
-/// nothing at all on refusal, 15 excepted.
+/// nothing at all on refusal, 15 excepted. FERS that is accepted has erased the
+/// partition only if the response's short pairs are 0.
 #[allow(clippy::too_many_arguments)]
 pub fn mailbox(
     image: &[u8],

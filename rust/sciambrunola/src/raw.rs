@@ -6,7 +6,7 @@
 //! so it overlaps no other. Shared slices may be the same or overlap.
 
 use crate::cache::Cache;
-use crate::states::PARTITIONS;
+use crate::constants::PARTITIONS;
 
 pub(crate) const STATE_ERASED: u32 = 0;
 pub(crate) const STATE_TORN: u32 = 1;
@@ -16,9 +16,8 @@ pub(crate) const WORD: u32 = 0;
 pub(crate) const DONE: u32 = 1;
 pub(crate) const WITHHELD: u32 = 2;
 
-pub(crate) const ERASED: u32 = 0;
+pub(crate) const ENDED: u32 = 0;
 pub(crate) const CUT: u32 = 1;
-pub(crate) const NO_CELL: u32 = 0xFFFF_FFFF;
 
 pub(crate) const CLEAR: u32 = 1;
 pub(crate) const LOAD: u32 = 2;

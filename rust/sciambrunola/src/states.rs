@@ -1,9 +1,7 @@
 //! The states of a drive's partitions (document 01, "Burning and counting").
 
+use crate::constants::PARTITIONS;
 use crate::raw;
-
-/// The most partitions that a map has.
-pub(crate) const PARTITIONS: usize = 16;
 
 /// What [`states`](crate::states) answers.
 #[derive(Clone, Copy, Debug, PartialEq, Eq)]

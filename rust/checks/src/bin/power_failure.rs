@@ -71,7 +71,7 @@ fn part(part: Part) -> &'static str {
 
 fn answer(erasure: Erasure) -> String {
     match erasure {
-        Erasure::Erased { short_pairs, burns, .. } => format!("short {short_pairs}, burns {burns}"),
+        Erasure::Ended { short_pairs, burns, .. } => format!("short {short_pairs}, burns {burns}"),
         Erasure::Cut { burns } => format!("cut, burns {burns}"),
         Erasure::Refused { number, burns } => format!("refused {number}, burns {burns}"),
     }

@@ -6,7 +6,7 @@ use checks::calls::requests::fers;
 use checks::small::Small;
 use model::mailbox::fields::Command;
 use model::mailbox::request::{Request, Values};
-use sciambrunola::{Cache, Erasure, Order, Reply};
+use sciambrunola::{Cache, Erasure, Order, Reply, NO_CELL};
 
 fn main() {
     let cases = [case_1, case_2, case_3, case_4, case_5, case_6, case_7, case_8, case_9];
@@ -36,7 +36,7 @@ fn case_1() -> String {
 fn case_2() -> String {
     let mut small = new();
     let burns = match new().erase() {
-        Erasure::Erased { burns, .. } => burns,
+        Erasure::Ended { burns, .. } => burns,
         other => return format!("{other:?}"),
     };
     let chksum = fers(0).right_chksum();
@@ -133,7 +133,7 @@ fn key(small: &mut Small, command: Command, tag: u64) {
 fn erased_by_mailbox(small: &mut Small, partition: u32) -> String {
     match small.mailbox(&fers(partition)) {
         Reply::Accepted { length: 20, order: Order::None } => match small.field(4) {
-            0xFFFF_FFFF => format!("short {}, first 0xFFFFFFFF", small.field(3)),
+            NO_CELL => format!("short {}, first 0xFFFFFFFF", small.field(3)),
             first => format!("short {}, first {first}", small.field(3)),
         },
         reply => text(reply),

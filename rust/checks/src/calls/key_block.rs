@@ -46,7 +46,7 @@ impl KeyBlock for Proved {
             }
         });
         match erasure {
-            proved::Erasure::Erased { short_pairs, first_short, burns } => {
+            proved::Erasure::Ended { short_pairs, first_short, burns } => {
                 Erasure::Erased { short_pairs, first_short, burns }
             }
             proved::Erasure::Cut { burns } => Erasure::Cut { burns },

@@ -5,6 +5,7 @@ use crate::random::Random;
 use crate::{drives, maps};
 use model::drive::Drive;
 use model::map::Header;
+use sciambrunola::PARTITIONS;
 
 const SEED: u64 = 0x5EED_0016_0003_2048;
 
@@ -27,7 +28,7 @@ pub fn numbered(number: usize) -> Generated {
         drives::damage_lengths(&mut random, &mut drive);
     }
     let asked = asked(&mut random, &drive);
-    let mut array = || [(); 16].map(|()| random.cell());
+    let mut array = || [(); PARTITIONS].map(|()| random.cell());
     let arrays = Arrays { states: array(), short_pairs: array() };
     Generated { drive, asked, arrays }
 }

@@ -3,6 +3,7 @@
 use model::drive::Drive;
 use model::partition::State;
 use model::reading;
+use sciambrunola::PARTITIONS;
 
 /// `sci_fields`: refusal, partitions, cells, bound, first, length, kind, flags.
 pub type Fields = [u32; 8];
@@ -12,8 +13,8 @@ pub type Listing = [u32; 2];
 /// The two arrays that the states are written to.
 #[derive(Clone, Debug, PartialEq, Eq)]
 pub struct Arrays {
-    pub states: [u32; 16],
-    pub short_pairs: [u32; 16],
+    pub states: [u32; PARTITIONS],
+    pub short_pairs: [u32; PARTITIONS],
 }
 
 /// Both calls.

@@ -1,0 +1,83 @@
+//! The numbers of document 01 that a caller needs, under the names of the C header.
+
+/// The bytes of the engine block.
+pub const BLOCK_BYTES: usize = 128;
+/// The bytes of the shortest response buffer that is accepted.
+pub const LEAST_RESPONSE: usize = 20;
+/// The places of the key cache.
+pub const PLACES: usize = 16;
+/// The most partitions that a map has.
+pub const PARTITIONS: usize = 16;
+/// The first short cell in FERS's response, where no pair is short.
+pub const NO_CELL: u32 = 0xFFFF_FFFF;
+/// The active slot's partition in FSTA's response, where no slot is active.
+pub const NO_SLOT: u32 = 0xFFFF_FFFF;
+
+/// The codes of the mailbox commands.
+pub mod code {
+    /// Clears the key cache.
+    pub const CLKC: u32 = 0x434C_4B43;
+    /// Loads a key.
+    pub const KLOD: u32 = 0x4B4C_4F44;
+    /// Unloads a key.
+    pub const KUNL: u32 = 0x4B55_4E4C;
+    /// Erases a partition.
+    pub const FERS: u32 = 0x4645_5253;
+    /// Tells the active slot and whether its HEK is available.
+    pub const FSTA: u32 = 0x4653_5441;
+}
+
+/// The kinds of a partition.
+pub mod kind {
+    /// A data word is a pair; the partition may be secret.
+    pub const HARDWARE: u32 = 0;
+    /// A data word is one cell.
+    pub const SOFTWARE: u32 = 1;
+    /// Never zeroizable, and never written.
+    pub const LIFE_CYCLE: u32 = 2;
+}
+
+/// The flags of a partition, which are summed.
+pub mod flag {
+    /// It can be erased; its last pair is the indicator.
+    pub const ZEROIZABLE: u32 = 1;
+    /// Its words are not read.
+    pub const SECRET: u32 = 2;
+    /// It is a slot of the HEK.
+    pub const SLOT: u32 = 4;
+}
+
+/// The refusal numbers.
+pub mod refusal {
+    /// The map breaks a rule.
+    pub const MAP: u32 = 1;
+    /// Cells or marks are not as many as the map says, or block or response buffer
+    /// have not the length they need.
+    pub const LENGTHS: u32 = 2;
+    /// Unknown code.
+    pub const CODE: u32 = 3;
+    /// The request has not its exact length.
+    pub const REQUEST_LENGTH: u32 = 4;
+    /// Wrong chksum.
+    pub const CHKSUM: u32 = 5;
+    /// Reserved is not zero.
+    pub const RESERVED: u32 = 6;
+    /// No such partition, or the cell starts no word.
+    pub const NOT_FOUND: u32 = 7;
+    /// The command may not touch it.
+    pub const FORBIDDEN: u32 = 8;
+    /// WRITE would clear a fuse.
+    pub const CLEARS_FUSE: u32 = 9;
+    /// Slot change while keys are held.
+    pub const KEYS_HELD: u32 = 10;
+    /// KLOD, HEK not available.
+    pub const NO_HEK: u32 = 11;
+    /// KLOD, tag held already.
+    pub const TAG_HELD: u32 = 12;
+    /// KLOD, no empty place.
+    pub const NO_PLACE: u32 = 13;
+    /// KUNL, tag not held.
+    pub const TAG_NOT_HELD: u32 = 14;
+    /// The indicator is short after its burn, and stays burned.
+    pub const INDICATOR_SHORT: u32 = 15;
+}
