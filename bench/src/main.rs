@@ -1,19 +1,40 @@
-//! Measures everything, prints the table, writes it to `bench/TABLE.md` and shows
-//! it in README.md.
+//! Measures everything and prints the table. With `--write` it also writes the
+//! table to `bench/TABLE.md` and shows it in README.md.
 
 use bench::measure::Measure;
 use bench::{equal, rows, table};
-use std::fs;
+use std::process::ExitCode;
 
 /// Every row is measured in each pass, so that a disturbance does not hit one
 /// row alone.
 const PASSES: usize = 40;
 const ROUNDS: usize = 100;
 
-fn main() {
+const USAGE: &str = "usage: bench [--write]";
+
+fn main() -> ExitCode {
+    let arguments: Vec<String> = std::env::args().skip(1).collect();
+    let write = match arguments.iter().map(String::as_str).collect::<Vec<_>>()[..] {
+        [] => false,
+        ["--write"] => true,
+        _ => {
+            eprintln!("{USAGE}");
+            return ExitCode::FAILURE;
+        }
+    };
     if cfg!(debug_assertions) {
         panic!("times say something in an optimised build alone: --release");
     }
+    let (text, sum) = measured();
+    print!("{text}\nsum of all answers: {sum:08X}\n");
+    if write {
+        table::write(&text);
+    }
+    ExitCode::SUCCESS
+}
+
+/// The table, and the sum of all numbers that were answered.
+fn measured() -> (String, u32) {
     let rows = rows::all();
     rows.iter().for_each(equal::check);
     let mut measures: Vec<Measure> = rows.iter().map(Measure::new).collect();
@@ -22,11 +43,6 @@ fn main() {
             (0..ROUNDS).for_each(|_| measure.round());
         }
     }
-    let text = table::text(&measures);
-    let readme = fs::read_to_string(table::readme()).expect("README.md can be read");
-    let [before, _, after] = table::parts(&readme).expect("README.md has the table's comments");
-    fs::write(table::path(), &text).expect("bench/TABLE.md can be written");
-    fs::write(table::readme(), [before, &text, after].concat()).expect("README.md can be written");
     let sum = measures.iter().fold(0, |sum: u32, measure| sum.wrapping_add(measure.sum));
-    print!("{text}\nsum of all answers: {sum:08X}\n");
+    (table::text(&measures), sum)
 }

@@ -9,9 +9,9 @@ use model::lent::Lent;
 use model::mailbox::fields::Command;
 use model::mailbox::request::{Request, Values};
 use model::map::{HARDWARE, SOFTWARE, ZEROIZABLE};
+use sciambrunola::{BLOCK_BYTES, LEAST_RESPONSE, PARTITIONS};
 
 const CELLS: usize = 2048;
-const PARTITIONS: usize = 16;
 /// The cells of a partition of the largest map.
 const SHARE: usize = CELLS / PARTITIONS;
 /// The cells behind a zeroizable partition's data.
@@ -32,21 +32,34 @@ pub fn states() -> Row {
 pub fn all() -> Vec<Row> {
     let (pairs, singles) =
         (one_partition(HARDWARE, SLOT_FLAGS), one_partition(SOFTWARE, ZEROIZABLE));
-    let mut rows = vec![
-        states(),
-        row("map check, 16 partitions, 256 bytes", every_state(), Call::Fields { partition: 15 }),
-        row("erasure, 2,048 cells in pairs", pairs, Call::Erase { partition: 0 }),
-        row("erasure, 2,048 single cells", singles, Call::Erase { partition: 0 }),
-    ];
+    let mut rows = vec![states(), map_check()];
+    rows.extend(erasures("erasure, 2,048 cells in pairs", pairs));
+    rows.extend(erasures("erasure, 2,048 single cells", singles));
     rows.extend(Command::ALL.map(|command| mailbox(command, "small drive", Drive::small())));
     rows.extend(Command::ALL.map(|command| mailbox(command, "largest map", last_slot_active())));
     rows
 }
 
+/// The fields of the last partition, for which the whole map is judged.
+fn map_check() -> Row {
+    let last = PARTITIONS as u32 - 1;
+    row("map check, 16 partitions, 256 bytes", every_state(), Call::Fields { partition: last })
+}
+
+/// The erasure of a drive's one partition: with no pair short, and with the digest
+/// short, so that the lowest short pair is looked for through all data.
+fn erasures(name: &str, drive: Drive) -> [Row; 2] {
+    let mut short = drive.clone();
+    short.marks[CELLS - TAIL] = 0x1F;
+    let names = [format!("{name}, none short"), format!("{name}, digest short")];
+    let call = || Call::Erase { partition: 0 };
+    [row(&names[0], drive, call()), row(&names[1], short, call())]
+}
+
 /// A call with an empty cache, on a drive that it leaves fit for the same again.
 fn row(name: &str, drive: Drive, call: Call) -> Row {
-    let start =
-        Lent { drive, cache: Cache::default(), block: vec![0xB1; 128], response: vec![0xA5; 20] };
+    let (block, response) = (vec![0xB1; BLOCK_BYTES], vec![0xA5; LEAST_RESPONSE]);
+    let start = Lent { drive, cache: Cache::default(), block, response };
     Row { name: name.to_string(), start, call, put_back: false }
 }
 

@@ -4,6 +4,7 @@ use crate::measure::Measure;
 use crate::sides::{LIBRARY, MODEL, PLAIN};
 use checks::runner::in_repository;
 use checks::stack;
+use std::fs;
 use std::path::PathBuf;
 
 const HEAD: &str = "\
@@ -19,7 +20,10 @@ safe Rust as one writes it without care for speed, with no allocation and early 
 `model` is the tests' oracle, written to be read. Before it is timed, each call is made on all three, \
 and answers, cells, cache, block, response and states are equal. Each call is repeated on what it \
 left; KLOD and KUNL find 8 keys held, and the time to put the cache back is part of theirs on every side. \
-In the largest map (16 slots, 2,048 cells, 256 bytes) the active slot is the last.
+In the largest map (16 slots, 2,048 cells, 256 bytes) the active slot is the last. `map check` is \
+the call `sci_partition` of that map's last partition, for which the whole map is judged. `none short` \
+is an erasure after which no pair is short; `digest short` is one after which the digest alone is, \
+the last pair before the indicator, so that the lowest short pair is looked for through all data.
 ";
 
 /// The comments in README.md that the table stands between.
@@ -41,6 +45,17 @@ pub fn parts(readme: &str) -> Option<[&str; 3]> {
     let table = readme.find(BEGIN)? + BEGIN.len();
     let end = table + readme[table..].find(END)?;
     Some([&readme[..table], &readme[table..end], &readme[end..]])
+}
+
+/// Writes the table to where it is kept and to where it is shown.
+///
+/// # Panics
+/// If one of the files cannot be read or written, or README.md has no place for it.
+pub fn write(text: &str) {
+    let shown = fs::read_to_string(readme()).expect("README.md can be read");
+    let [before, _, after] = parts(&shown).expect("README.md has the table's comments");
+    fs::write(path(), text).expect("bench/TABLE.md can be written");
+    fs::write(readme(), [before, text, after].concat()).expect("README.md can be written");
 }
 
 /// The table of these measures, with the stack of each call.
