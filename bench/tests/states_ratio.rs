@@ -1,6 +1,6 @@
-//! P14: on 2,048 cells in 16 partitions the states take "at most 1.5 times as
-//! long as safe Rust that finds the same states and short pairs with its own bit
-//! count on each pair", which is `plain::states`.
+//! On 2,048 cells in 16 partitions the states take at most 1.5 times as long as
+//! safe Rust that finds the same states and short pairs with its own bit count on
+//! each pair, which is `plain::states`.
 
 use bench::measure::Measure;
 use bench::row::Row;

@@ -2,8 +2,8 @@
  * The key block from C, on the small drive of document 01: its map and its states
  * are read, a key is loaded, an erasure is refused while the key is held, the drive
  * restarts, another erasure is cut by a power failure, and the next one ends it.
- * Each step prints a line; the first that is not answered as it should be ends the
- * program with a failing status. main, at the end, tells the story.
+ * Each step prints a line; one that fails ends the program with a failing status.
+ * main, at the end, tells the story.
  *
  * From the root of the repository, once the archive is built:
  *   cc -std=c99 -I include examples/c/key_block.c target/staticlib/libsciambrunola.a \
@@ -152,16 +152,21 @@ static bool load_key(uint64_t tag, const uint8_t mek[MEK_BYTES])
     return true;
 }
 
-/* Which slot is active, SCI_NO_SLOT if none is, and whether its key is available. */
-static bool ask_for_status(void)
+/* Which slot is active, SCI_NO_SLOT if none is, and whether its key is available:
+ * it must be as long as the slot has its seed, and not after. */
+static bool ask_for_status(bool must_be_available)
 {
     uint8_t request[8] = {0}; /* chksum, reserved */
     sci_reply reply = ask(SCI_FSTA, request, sizeof request);
-    if (reply.refusal != 0) {
+    if (reply.refusal != 0 || reply.order != SCI_ORDER_NONE) {
         return failed("FSTA", reply.refusal);
     }
     printf("FSTA: active slot 0x%08" PRIX32 ", HEK available %" PRIu32 "\n",
            field(response + 12), field(response + 16));
+    if (field(response + 16) != (must_be_available ? 1 : 0)) {
+        fprintf(stderr, "FSTA: the HEK should%s be available\n", must_be_available ? "" : " not");
+        return false;
+    }
     return true;
 }
 
@@ -193,7 +198,7 @@ static bool restart(void)
 {
     sci_restart(kinds, tags);
     printf("restart: place 0 is %s\n", kinds[0] == 0 ? "empty" : "held");
-    return kinds[0] == 0;
+    return kinds[0] == 0 || failed("restart", 0);
 }
 
 /* What a power failure leaves that comes at burn 1, the first data word, when its
@@ -225,17 +230,22 @@ static bool erase_slot(void)
     return listed;
 }
 
+/* A mark is 1 to 8 hexadecimal digits and nothing else. */
+static bool is_mark(const char *text)
+{
+    size_t digits = strspn(text, "0123456789ABCDEFabcdef");
+    return digits >= 1 && digits <= 8 && text[digits] == '\0';
+}
+
 /* Puts the mark on cell 1 that the argument names, if there is one. */
 static bool take_mark(int argc, char **argv)
 {
-    char *end;
-    if (argc < 2) {
-        return true;
-    }
-    marks[1] = (uint32_t)strtoul(argv[1], &end, 16);
-    if (argc > 2 || end == argv[1] || *end != '\0') {
-        fprintf(stderr, "usage: key_block [mark of cell 1, in hexadecimal]\n");
+    if (argc > 2 || (argc == 2 && !is_mark(argv[1]))) {
+        fprintf(stderr, "usage: key_block [mark of cell 1, 1 to 8 hexadecimal digits]\n");
         return false;
+    }
+    if (argc == 2) {
+        marks[1] = (uint32_t)strtoul(argv[1], NULL, 16);
     }
     return true;
 }
@@ -245,8 +255,8 @@ int main(int argc, char **argv)
     uint8_t mek[MEK_BYTES];
     bool done;
     memset(mek, 0x4B, sizeof mek); /* stands for a key */
-    done = take_mark(argc, argv) && read_map() && list_states() && ask_for_status()
+    done = take_mark(argc, argv) && read_map() && list_states() && ask_for_status(true)
            && load_key(UINT64_C(0x1122334455667788), mek) && erase_with_key_held() && restart()
-           && erase_slot_cut() && list_states() && erase_slot() && ask_for_status();
+           && erase_slot_cut() && list_states() && erase_slot() && ask_for_status(false);
     return done ? EXIT_SUCCESS : EXIT_FAILURE;
 }

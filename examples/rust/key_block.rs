@@ -1,8 +1,8 @@
 //! The key block from Rust, on the small drive of document 01: its map and its
 //! states are read, a key is loaded, an erasure is refused while the key is held,
 //! the drive restarts, another erasure is cut by a power failure, and the next one
-//! ends it. Each step prints a line; the first that is not answered as it should
-//! be ends the program with a failing status. `story`, at the end, tells it.
+//! ends it. Each step prints a line; one that fails ends the program with a failing
+//! status. `story`, at the end, tells it.
 //!
 //! From the root of the repository, once the archive is built:
 //!   cargo run --offline --release --manifest-path rust/Cargo.toml --bin key_block
@@ -121,8 +121,9 @@ impl Drive {
         }
     }
 
-    /// Which slot is active, `NO_SLOT` if none is, and whether its key is available.
-    fn ask_for_status(&mut self) -> Step {
+    /// Which slot is active, `NO_SLOT` if none is, and whether its key is available:
+    /// it must be as long as the slot has its seed, and not after.
+    fn ask_for_status(&mut self, must_be_available: bool) -> Step {
         let mut request = [0; 8]; // chksum, reserved
         match self.ask(code::FSTA, &mut request) {
             Reply::Accepted { order: Order::None, .. } => {}
@@ -130,7 +131,10 @@ impl Drive {
         }
         let (active, available) = (field(&self.response, 12), field(&self.response, 16));
         println!("FSTA: active slot 0x{active:08X}, HEK available {available}");
-        Ok(())
+        match available == u32::from(must_be_available) {
+            true => Ok(()),
+            false => failed("FSTA, HEK available", available),
+        }
     }
 
     fn erase(&mut self) -> Erasure {
@@ -200,15 +204,21 @@ fn field(bytes: &[u8], at: usize) -> u32 {
     u32::from_le_bytes([bytes[at], bytes[at + 1], bytes[at + 2], bytes[at + 3]])
 }
 
+/// A mark is 1 to 8 hexadecimal digits and nothing else.
+fn is_mark(text: &str) -> bool {
+    (1..=8).contains(&text.len()) && text.bytes().all(|byte| byte.is_ascii_hexdigit())
+}
+
 /// The mark for cell 1 that the argument names, 0 if there is none.
 fn mark() -> Result<u32, String> {
     let arguments: Vec<String> = std::env::args().skip(1).collect();
     let read = match arguments.as_slice() {
         [] => Some(0),
-        [mark] => u32::from_str_radix(mark, 16).ok(),
+        [mark] if is_mark(mark) => u32::from_str_radix(mark, 16).ok(),
         _ => None,
     };
-    read.ok_or_else(|| "usage: key_block [mark of cell 1, in hexadecimal]".to_string())
+    let usage = "usage: key_block [mark of cell 1, 1 to 8 hexadecimal digits]";
+    read.ok_or_else(|| usage.to_string())
 }
 
 fn main() -> ExitCode {
@@ -228,12 +238,12 @@ fn story() -> Step {
     let mut drive = Drive { cells, marks, cache: Cache::default(), response, block };
     read_map()?;
     drive.list_states()?;
-    drive.ask_for_status()?;
+    drive.ask_for_status(true)?;
     drive.load_key(0x1122_3344_5566_7788, &[0x4B; 64])?; // stands for a key
     drive.erase_with_key_held()?;
     drive.restart()?;
     drive.erase_slot_cut()?;
     drive.list_states()?;
     drive.erase_slot()?;
-    drive.ask_for_status()
+    drive.ask_for_status(false)
 }

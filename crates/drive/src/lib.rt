@@ -137,7 +137,7 @@ fn slot_at(image: &[u8], cells: &[u32], i: u32) -> ActiveSlot
 }
 
 // Whether there is an active slot.
-pub fn is_present(slot: ActiveSlot) -> bool
+fn is_present(slot: ActiveSlot) -> bool
     ensures { λ r. ⌜ r ≡ present slot ⌝ }
 {
     match slot {

@@ -20,7 +20,7 @@ use Rattle.burns.specs.Safe.{run-late, run-early, run-burns, never-cut}
 use Rattle.drive.specs.Drive.{Whole as WholeDrive, wholeArrays, cellsOf}
 use Rattle.cache.specs.Cache.{Cache}
 use Rattle.erasure.specs.declared.Answer.{Answer}
-use Rattle.erasure.specs.declared.Answer.the-variants.{Erased, Cut, Refused}
+use Rattle.erasure.specs.declared.Answer.the-variants.{Ended, Cut, Refused}
 use Rattle.erasure.specs.Erasure.{eraseTests, inWhole, runOn, never, answerBy, Outcome, leftBy, refusedOf, eraseOf, erasureOf, isCut}
 use Rattle.erasure.specs.Laws.{part-long, part-small}
 
@@ -60,7 +60,7 @@ module _ (image cells : List ℕ) (i : ℕ) (whole : WholeDrive image cells) (l 
 
 -- the burns that an answer tells
 abbrev pub burnsIn : Answer → ℕ
-burnsIn (Erased short first burns) = burns
+burnsIn (Ended short first burns) = burns
 burnsIn (Cut burns) = burns
 burnsIn (Refused number burns) = burns
 
@@ -117,7 +117,7 @@ erasure-uncut image cells marks cache i =
 -- "the number of burns carried out, equal to the number that this order reaches"; "the burns carried out, k + 1"; "one burn is reported"
 -- for 15, and none for any other refusal
 abbrev pub BurnsTold : (image : List ℕ) (i k : ℕ) → Answer → Type 0
-BurnsTold image i k (Erased short first burns) = burns ≡ length (order (software (entryOf image i)) (entryOf image i .n))
+BurnsTold image i k (Ended short first burns) = burns ≡ length (order (software (entryOf image i)) (entryOf image i .n))
 BurnsTold image i k (Cut burns) = burns ≡ k + 1
 BurnsTold image i k (Refused number burns) = burns ≡ cond (eqb number 15) 1 0
 

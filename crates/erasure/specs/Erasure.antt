@@ -17,7 +17,7 @@ use Rattle.burns.specs.Run.{Tally, tallyOf, Ran, ran, run}
 use Rattle.drive.specs.Drive.{Whole as WholeDrive, driveTests, cellsOf, slotInUse}
 use Rattle.cache.specs.Cache.{Cache, empty}
 use Rattle.erasure.specs.declared.Answer.{Answer}
-use Rattle.erasure.specs.declared.Answer.the-variants.{Erased, Cut, Refused}
+use Rattle.erasure.specs.declared.Answer.the-variants.{Ended, Cut, Refused}
 
 -- ---- refusals
 
@@ -71,7 +71,7 @@ firstShort first Nothing = 0xFFFF_FFFF
 abbrev pub answerBy : End → (image : List ℕ) (i : ℕ) → Tally → Answer
 answerBy Whole image i t =
     let part : List ℕ = cellsOf image (t .cells) i in
-    Erased (shortPairs (headerOf image .bound) part) (firstShort (entryOf image i .first) (lowestShort (headerOf image .bound) part)) (t .burns)
+    Ended (shortPairs (headerOf image .bound) part) (firstShort (entryOf image i .first) (lowestShort (headerOf image .bound) part)) (t .burns)
 answerBy Stopped image i t = Refused 15 (t .burns)
 answerBy CutEnd image i t = Cut (t .burns)
 
@@ -109,7 +109,7 @@ uncutOf image cells marks i = leftBy image i (runOn image cells marks i never 0)
 
 -- the power failed
 abbrev pub isCut : Answer → Bool
-isCut (Erased short first burns) = false
+isCut (Ended short first burns) = false
 isCut (Cut burns) = true
 isCut (Refused number burns) = false
 

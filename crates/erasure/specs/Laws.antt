@@ -26,7 +26,7 @@ use Rattle.drive.specs.Drive.{Whole as WholeDrive, checkOf, cellsOf, slotInUse}
 use Rattle.drive.specs.Laws.{check-refused, check-passed, judged, part-is, shorts-most}
 use Rattle.cache.specs.Cache.{Cache, empty}
 use Rattle.erasure.specs.declared.Answer.{Answer}
-use Rattle.erasure.specs.declared.Answer.the-variants.{Erased, Refused}
+use Rattle.erasure.specs.declared.Answer.the-variants.{Ended, Refused}
 use Rattle.erasure.specs.Erasure.{partitionTests, Erasable, inWhole, runOn, firstShort, answerBy, Outcome, left, leftBy, refusedOf, eraseOf, isCut, cacheAfter, leftAll, withCache}
 
 -- ---- the number of the partition's refusals
@@ -109,10 +109,10 @@ module _ (image cells marks : List ℕ) (i : ℕ) (ok : Erasable image cells mar
 
 -- ---- the answer, at the values that were read
 
-pub erased-is : (image cells : List ℕ) (i burns : ℕ) {header : Header} {x : Entry} {part : List ℕ} {shorts : Shorts} {first : ℕ} → header ≡ headerOf image → x ≡ entryOf image i → part ≡ cellsOf image cells i
+pub ended-is : (image cells : List ℕ) (i burns : ℕ) {header : Header} {x : Entry} {part : List ℕ} {shorts : Shorts} {first : ℕ} → header ≡ headerOf image → x ≡ entryOf image i → part ≡ cellsOf image cells i
     → shorts ≡ shortsOf (header .bound) part → first ≡ firstShort (x .first) (shorts .lowest)
-    → Erased (shorts .count) first burns ≡ answerBy Whole image i (tallyOf cells burns)
-erased-is image cells i burns h e p q f = rw (f, q, p, h, e)
+    → Ended (shorts .count) first burns ≡ answerBy Whole image i (tallyOf cells burns)
+ended-is image cells i burns h e p q f = rw (f, q, p, h, e)
 
 -- how a run ended, as the code tells it
 pub ended : (image : List ℕ) (i : ℕ) (t : Tally) {end told : End} {answer : Answer} → end ≡ told → answer ≡ answerBy told image i t → answer ≡ answerBy end image i t

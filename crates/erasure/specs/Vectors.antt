@@ -16,7 +16,7 @@ use Rattle.burns.specs.Run.{wordsFrom, order, goesOn, stopsAfter, burnsOf}
 use Rattle.cache.specs.Cache.{Cache, cacheOf, empty, isAt}
 use Rattle.drive.specs.Drive.{wholeArrays}
 use Rattle.erasure.specs.declared.Answer.{Answer}
-use Rattle.erasure.specs.declared.Answer.the-variants.{Erased, Cut, Refused}
+use Rattle.erasure.specs.declared.Answer.the-variants.{Ended, Cut, Refused}
 use Rattle.erasure.specs.Erasure.{runOn, eraseOf, erasureOf, cutErasureOf, left, leftAll}
 
 abbrev all : ℕ
@@ -41,14 +41,14 @@ held = cacheOf (1 ∷ replicate 15 0) (5 ∷ replicate 15 0)
 
 -- whole: four burns, one short pair, named by its cell in the whole array; and 15, which leaves the burned indicator
 erasures : erasureOf drive start (marks 0x1F 0) held 1 ∷ erasureOf drive start (marks 0 0x1F) held 1 ∷ []
-    ≡ left (Erased 1 6 4) (cells all 0xFFFF_FFE0 all all all all) ∷ left (Refused 15 1) (cells 3 0 0 0 0xFFFF_FFE0 all) ∷ []
+    ≡ left (Ended 1 6 4) (cells all 0xFFFF_FFE0 all all all all) ∷ left (Refused 15 1) (cells 3 0 0 0 0xFFFF_FFE0 all) ∷ []
 unfolding eraseOf mapGood wholeArrays every headerGood fillerGood entryGood placeGood allBelow u16At runOn burnsOf order wordsFrom burnWord burnCell stopsAfter goesOn counted shortAt countBelow lowestShort firstFrom onesIn isAt
 erasures = refl
 
 -- cut at the second data word, burn 2: the mask's low 32 bits go into it, three burns; a cut at burn 4, past the order, is none, and
 -- leaves the cache
 cuts : cutErasureOf drive start (marks 0 0) held 1 2 0x3_0000_0005 ∷ cutErasureOf drive start (marks 0 0) held 1 4 0 ∷ []
-    ≡ leftAll (Cut 3) (cells all 5 0 0 all all) empty ∷ leftAll (Erased 0 0xFFFF_FFFF 4) (cells all all all all all all) held ∷ []
+    ≡ leftAll (Cut 3) (cells all 5 0 0 all all) empty ∷ leftAll (Ended 0 0xFFFF_FFFF 4) (cells all all all all all all) held ∷ []
 unfolding eraseOf mapGood wholeArrays every headerGood fillerGood entryGood placeGood allBelow u16At runOn burnsOf order wordsFrom burnWord burnCell stopsAfter goesOn counted shortAt countBelow lowestShort firstFrom onesIn isAt
 cuts = refl
 

@@ -17,11 +17,11 @@ ghost use Rattle.drive.specs.Drive.{Whole};
 ghost use Rattle.cache.specs.Cache.{cacheOf, empty};
 ghost use Rattle.erasure.specs.Erasure.{partitionTests, Erasable, runOn, firstShort, answerBy, isCut, left, leftBy, leftAll, uncutOf, eraseOf, erasureOf, cutErasureOf};
 
-// What an erasure answers: its short pairs, the first cell of the lowest one (0xFFFFFFFF if none) and
-// the burns carried out; or that it was cut, and the burns carried out; or the refusal's number, and
+// What an erasure answers: that it ended, its short pairs, the first cell of the lowest one (0xFFFFFFFF
+// if none) and the burns carried out, and the partition is erased only if no pair is short; or that it was cut, and the burns carried out; or the refusal's number, and
 // the burns carried out, none but the indicator's of refusal 15.
 pub enum Answer {
-    Erased { short: u32, first: u32, burns: u32 },
+    Ended { short: u32, first: u32, burns: u32 },
     Cut { burns: u32 },
     Refused { number: u32, burns: u32 },
 }
@@ -93,7 +93,7 @@ fn answer_of(image: &[u8], cells: &[u32], i: u32, report: Report) -> Answer
             let part = drive::part_of(image, cells, i);
             let shorts = partition::shorts_of(part, header.bound as u64);
             let lowest = shorts.lowest;
-            Answer::Erased {
+            Answer::Ended {
                 short: shorts.count as u32,
                 first: first_short(x.first, lowest),
                 burns: burns,
@@ -174,7 +174,7 @@ fn is_cut(answer: Answer) -> bool
     ensures { λ r. ⌜ r ≡ isCut answer ⌝ }
 {
     match answer {
-        Answer::Erased {
+        Answer::Ended {
             short: _,
             first: _,
             burns: _,

@@ -10,7 +10,7 @@ ghost use Rattle.fuse.specs.Fuse.{burn, pairOf, onesOf, short, cellsIn, 
 pub const ALL_ONES: u64 = 0xFFFF_FFFF_FFFF_FFFF;
 
 // What a burn of `value` leaves in a cell whose stuck fuses are marked in `stuck`.
-pub fn burned(cell: u32, value: u32, stuck: u32) -> u32
+fn burned(cell: u32, value: u32, stuck: u32) -> u32
     ensures { λ r. ⌜ r ≡ burn cell value stuck ⌝ }
 {
     cell | (value & !stuck)

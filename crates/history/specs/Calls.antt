@@ -9,7 +9,7 @@ use Rattle.direct.specs.declared.Answer.{Answer}
 use Rattle.direct.specs.declared.Answer.the-variants.{Word, Done, Withheld, Refused as RefusedDirect}
 use Rattle.direct.specs.Direct.{directOf}
 use Rattle.erasure.specs.declared.Answer.{Answer as Erasure}
-use Rattle.erasure.specs.declared.Answer.the-variants.{Erased, Cut, Refused as RefusedErasure}
+use Rattle.erasure.specs.declared.Answer.the-variants.{Ended, Cut, Refused as RefusedErasure}
 use Rattle.erasure.specs.Erasure.{erasureOf, cutErasureOf}
 use Rattle.mailbox.specs.declared.Reply.{Reply}
 use Rattle.mailbox.specs.declared.Reply.the-variants.{Refused, Accepted}
@@ -61,7 +61,7 @@ refusal (Answering (Word word)) = 0
 refusal (Answering Done) = 0
 refusal (Answering Withheld) = 0
 refusal (Answering (RefusedDirect number)) = number
-refusal (Erasing (Erased short first burns)) = 0
+refusal (Erasing (Ended short first burns)) = 0
 refusal (Erasing (Cut burns)) = 0
 refusal (Erasing (RefusedErasure number burns)) = number
 refusal (Replying (Refused number) response) = number

@@ -20,7 +20,7 @@ use Rattle.cache.specs.Cache.{Cache, hasPlace, empty}
 use Rattle.cache.specs.Laws.{empty-held}
 use Rattle.cache.specs.declared.Sought.the-variants.{Held}
 use Rattle.erasure.specs.declared.Answer.{Answer}
-use Rattle.erasure.specs.declared.Answer.the-variants.{Erased, Cut, Refused as RefusedErasure}
+use Rattle.erasure.specs.declared.Answer.the-variants.{Ended, Cut, Refused as RefusedErasure}
 use Rattle.burns.specs.declared.End.{End}
 use Rattle.burns.specs.declared.End.the-variants.{Whole, Stopped, Cut as CutEnd}
 use Rattle.burns.specs.Run.{Tally, tallyOf, Ran, ran, order, run}
@@ -34,7 +34,7 @@ use Rattle.codec.specs.declared.Command.the-variants.{Fers}
 use Rattle.codec.specs.Fields.{responseFields, responseOf}
 use Rattle.codec.specs.Request.{requestTests}
 use Rattle.mailbox.specs.declared.Action.{Action}
-use Rattle.mailbox.specs.declared.Action.the-variants.{Refuse, Clear, Load, Unload, Erased as ErasedAction, Status}
+use Rattle.mailbox.specs.declared.Action.the-variants.{Refuse, Clear, Load, Unload, Ended as EndedAction, Status}
 use Rattle.mailbox.specs.declared.Reply.the-variants.{Refused}
 use Rattle.mailbox.specs.Laws.{fers-keeps}
 use Rattle.mailbox.specs.Mailbox.{Done, refuseWith, partitionIn, fersAction, fersOf, accepted, mailboxTests, doneOf, valueIn, replyOf, cacheAfter, outcomeOf}
@@ -276,7 +276,7 @@ fersBytes (Refuse n) = []
 fersBytes (Clear timeout) = []
 fersBytes (Load place tag timeout) = []
 fersBytes (Unload place tag timeout) = []
-fersBytes (ErasedAction short first) = responseOf (valueIn (ErasedAction short first)) (responseFields Fers)
+fersBytes (EndedAction short first) = responseOf (valueIn (EndedAction short first)) (responseFields Fers)
 fersBytes (Status slot) = []
 
 -- what FERS tells, by what its erasure answers
@@ -288,7 +288,7 @@ unfolding fersTells fersBytes
 fers-tells o cache request response block = by (o .answer) (o .cells)
   where
     by : (answer : Answer) (cells : List ℕ) → replying (outcomeOf (fersOf (left answer cells)) cache request response block) ≡ fersTells answer
-    by (Erased short first burns) cells = refl
+    by (Ended short first burns) cells = refl
     by (Cut burns) cells = refl
     by (RefusedErasure number burns) cells = refl
 

@@ -38,7 +38,7 @@ use Rattle.codec.specs.declared.Command.{Command as Code}
 use Rattle.codec.specs.declared.Command.the-variants.{Clkc, Klod, Kunl, Fers, Fsta, Unknown}
 use Rattle.codec.specs.Fields.{commandOf}
 use Rattle.mailbox.specs.declared.Action.{Action}
-use Rattle.mailbox.specs.declared.Action.the-variants.{Refuse, Clear, Load, Unload, Erased as ErasedAction, Status}
+use Rattle.mailbox.specs.declared.Action.the-variants.{Refuse, Clear, Load, Unload, Ended as EndedAction, Status}
 use Rattle.mailbox.specs.Laws.{mailbox-elim}
 use Rattle.mailbox.specs.Mailbox.{Done, fersAction, fersOf, partitionIn, accepted, ownTests, doneOf, replyOf, cacheAfter, responseAfter, blockAfter, mailboxOf}
 use Rattle.history.specs.Calls.{State, state, Call, Direct, Erase, EraseCut, Mailbox, Restart, Answering, Erasing, Replying, replying, told, refusal, after}
@@ -134,7 +134,7 @@ buffers-stay request response block (Refuse n) l = (refl, refl)
 buffers-stay request response block (Clear timeout) l = absurd (omega arith)
 buffers-stay request response block (Load place tag timeout) l = absurd (omega arith)
 buffers-stay request response block (Unload place tag timeout) l = absurd (omega arith)
-buffers-stay request response block (ErasedAction short first) l = absurd (omega arith)
+buffers-stay request response block (EndedAction short first) l = absurd (omega arith)
 buffers-stay request response block (Status slot) l = absurd (omega arith)
 
 pub refused-buffers : (image cells marks : List ℕ) (cache : Cache) (code : ℕ) (request response block : List ℕ) → let o = mailboxOf image cells marks cache code request response block in 1 ≤ refusal (replying o) → (o .response ≡ response) × (o .block ≡ block)

@@ -30,7 +30,7 @@ use Rattle.codec.specs.declared.Command.{Command as Command′}
 use Rattle.codec.specs.declared.Command.the-variants.{Clkc, Klod, Kunl, Fers, Fsta, Unknown}
 use Rattle.codec.specs.Fields.{commandOf}
 use Rattle.erasure.specs.declared.Answer.{Answer as Erasure}
-use Rattle.erasure.specs.declared.Answer.the-variants.{Erased, Cut, Refused as RefusedErasure}
+use Rattle.erasure.specs.declared.Answer.the-variants.{Ended, Cut, Refused as RefusedErasure}
 use Rattle.erasure.specs.Erasure.{uncutOf}
 use Rattle.mailbox.specs.declared.Reply.{Reply}
 use Rattle.mailbox.specs.declared.Reply.the-variants.{Refused as RefusedCall, Accepted}
@@ -163,7 +163,7 @@ orderIn (RefusedCall number) = Nothing
 orderIn (Accepted length order) = order
 
 fers-order : (answer : Erasure) → loads (orderIn (replyOf (fersAction answer))) ≡ true → ⊥
-fers-order (Erased short first burns) e = false≢true e
+fers-order (Ended short first burns) e = false≢true e
 fers-order (Cut burns) e = false≢true e
 fers-order (RefusedErasure number burns) e = false≢true e
 

@@ -20,7 +20,7 @@ use Rattle.cache.specs.Cache.{empty, isAt}
 use Rattle.drive.specs.Drive.{wholeArrays, surveyAt, slotAt, openSlot, activeSlot, available}
 use Rattle.engine.specs.declared.Order.the-variants.{Nothing, Clear}
 use Rattle.engine.specs.Engine.{zeros}
-use Rattle.erasure.specs.declared.Answer.the-variants.{Erased as Done, Cut, Refused as NotErased}
+use Rattle.erasure.specs.declared.Answer.the-variants.{Ended, Cut, Refused as NotErased}
 use Rattle.erasure.specs.Erasure.{runOn, eraseOf}
 use Rattle.codec.specs.Request.{requestTests}
 use Rattle.mailbox.specs.declared.Reply.the-variants.{Refused, Accepted}
@@ -102,7 +102,7 @@ cases =
     (seen noMarks [] fsta, row (Replying (Accepted 20 Nothing) (response 0xFFFF_FFFF 0 1)) (slotCells 1 0 0 0 0 0) 1 Programmed 3 true)
     -- 2, and the same erasure by a library call, which tells its burns
     ∷ (seen noMarks [] (fers 0xFFFF_FED0 0), row (Replying (Accepted 20 Nothing) (response 0xFFFF_FC04 0 0xFFFF_FFFF)) (slotCells all all all all all all) 64 Erased 0 false)
-    ∷ (seen noMarks [] (Erase 0), row (Erasing (Done 0 0xFFFF_FFFF 3)) (slotCells all all all all all all) 64 Erased 0 false)
+    ∷ (seen noMarks [] (Erase 0), row (Erasing (Ended 0 0xFFFF_FFFF 3)) (slotCells all all all all all all) 64 Erased 0 false)
     -- 3: 60 ones of word 0
     ∷ (seen (stuck 1 0x0F) [] (fers 0xFFFF_FED0 0), row (Replying (Accepted 20 Nothing) (response 0xFFFF_FC04 0 0xFFFF_FFFF)) (slotCells all 0xFFFF_FFF0 all all all all) 60 Erased 0 false)
     -- 4: 59 ones

@@ -21,7 +21,7 @@ use Rattle.drive.specs.Laws.{check-refused, check-passed}
 use Rattle.cache.specs.Cache.{Cache, lowestPlace, hasPlace, places}
 use Rattle.cache.specs.declared.Sought.the-variants.{Empty, Tag}
 use Rattle.erasure.specs.declared.Answer.{Answer}
-use Rattle.erasure.specs.declared.Answer.the-variants.{Erased as ErasedAnswer, Cut, Refused as RefusedAnswer}
+use Rattle.erasure.specs.declared.Answer.the-variants.{Ended as EndedAnswer, Cut, Refused as RefusedAnswer}
 use Rattle.erasure.specs.Erasure.{partitionTests, Erasable, uncutOf, left as leftBy}
 use Rattle.codec.specs.declared.Command.{Command}
 use Rattle.codec.specs.declared.Command.the-variants.{Clkc, Klod, Kunl, Fers, Fsta, Unknown}
@@ -29,7 +29,7 @@ use Rattle.codec.specs.Fields.{Cmd-timeout, Place, Short-pairs, First-short, Ac
 use Rattle.codec.specs.Request.{requestTests}
 use Rattle.codec.specs.Laws.{response-reads}
 use Rattle.mailbox.specs.declared.Action.{Action}
-use Rattle.mailbox.specs.declared.Action.the-variants.{Refuse, Clear, Load, Unload, Erased, Status}
+use Rattle.mailbox.specs.declared.Action.the-variants.{Refuse, Clear, Load, Unload, Ended, Status}
 use Rattle.mailbox.specs.declared.Reply.{Reply}
 use Rattle.mailbox.specs.Mailbox.{loadOf, unloadOf, loadTests, unloadTests, loadAction, unloadAction, Done, did, refuseWith, fersAction, fersOf, partitionIn, ownTests, ownDone, accepted, buffersBad, mailboxTests, doneOf, refusing, commandIn, cacheAfter, blockAfter, ownBytes, valueIn, responseAfter, replyOf, left, outcomeOf, mailboxOf, Fits, hekNumber}
 
@@ -129,7 +129,7 @@ refuses : (n : ℕ) → refusing (Refuse n) ≡ true
 refuses n = refl
 
 fers-kept : (answer : Answer) → refusing (fersAction answer) ≡ false → commandIn (fersAction answer) ≡ Fers
-fers-kept (ErasedAnswer short first burns) r = refl
+fers-kept (EndedAnswer short first burns) r = refl
 fers-kept (RefusedAnswer number burns) r = absurd (false≢true (sym r))
 fers-kept (Cut burns) r = absurd (false≢true (sym r))
 
@@ -169,16 +169,16 @@ responded (Refuse n) r p q = absurd (false≢true (sym r))
 responded (Clear timeout) r p q = closed-is p q ∙ rw (p .is-next)
 responded (Load place tag timeout) r p q = closed-is p q ∙ rw (p .is-next)
 responded (Unload place tag timeout) r p q = closed-is p q ∙ rw (p .is-next)
-responded (Erased short first) r p q = closed-is p q ∙ rw (p .is-next)
+responded (Ended short first) r p q = closed-is p q ∙ rw (p .is-next)
 responded (Status slot) r p q = closed-is p q ∙ rw (p .is-next)
 
 -- a host that reads the response by its list finds what is meant
 pub place-reads : (place tag timeout : ℕ) (response : List ℕ) → numberAt (responseFields Klod) Place (responseAfter (Load place tag timeout) response) ≡ place
 place-reads place tag timeout response = response-reads (valueIn (Load place tag timeout)) Klod Place (drop 16 response) refl refl refl
 
-pub erased-reads : (short first : ℕ) (response : List ℕ) → (numberAt (responseFields Fers) Short-pairs (responseAfter (Erased short first) response) ≡ short) × (numberAt (responseFields Fers) First-short (responseAfter (Erased short first) response) ≡ first)
-erased-reads short first response =
-    (response-reads (valueIn (Erased short first)) Fers Short-pairs (drop 20 response) refl refl refl, response-reads (valueIn (Erased short first)) Fers First-short (drop 20 response) refl refl refl)
+pub ended-reads : (short first : ℕ) (response : List ℕ) → (numberAt (responseFields Fers) Short-pairs (responseAfter (Ended short first) response) ≡ short) × (numberAt (responseFields Fers) First-short (responseAfter (Ended short first) response) ≡ first)
+ended-reads short first response =
+    (response-reads (valueIn (Ended short first)) Fers Short-pairs (drop 20 response) refl refl refl, response-reads (valueIn (Ended short first)) Fers First-short (drop 20 response) refl refl refl)
 
 pub slot-reads : (slot : ActiveSlot) (response : List ℕ) → (numberAt (responseFields Fsta) Active-slot (responseAfter (Status slot) response) ≡ slotNumber slot) × (numberAt (responseFields Fsta) Hek-available (responseAfter (Status slot) response) ≡ hekNumber slot)
 slot-reads slot response =
@@ -191,7 +191,7 @@ still (Refuse n) cells request response block cache e r = rw e
 still (Clear timeout) cells request response block cache e r = absurd (false≢true r)
 still (Load place tag timeout) cells request response block cache e r = absurd (false≢true r)
 still (Unload place tag timeout) cells request response block cache e r = absurd (false≢true r)
-still (Erased short first) cells request response block cache e r = absurd (false≢true r)
+still (Ended short first) cells request response block cache e r = absurd (false≢true r)
 still (Status slot) cells request response block cache e r = absurd (false≢true r)
 
 module _ (image cells marks : List ℕ) (cache : Cache) (code : ℕ) (request response block : List ℕ) (action : Action) (after : List ℕ) (e : did action after ≡ doneOf image cells marks cache code request (length response) (length block)) {reply : Reply} (said : reply ≡ replyOf action) where
@@ -222,7 +222,7 @@ mailbox-lowest image cells marks cache code request room block =
 -- ---- FERS leaves the cache
 
 pub fers-keeps : (answer : Answer) (cache : Cache) → cacheAfter (fersAction answer) cache ≡ cache
-fers-keeps (ErasedAnswer short first burns) cache = refl
+fers-keeps (EndedAnswer short first burns) cache = refl
 fers-keeps (Cut burns) cache = refl
 fers-keeps (RefusedAnswer number burns) cache = refl
 

@@ -11,7 +11,7 @@ use Rattle.drive.specs.declared.ActiveSlot.{ActiveSlot}
 use Rattle.cache.specs.Cache.{Cache, lowestPlace, hasPlace, loaded, freed, empty}
 use Rattle.cache.specs.declared.Sought.the-variants.{Empty, Tag}
 use Rattle.erasure.specs.declared.Answer.{Answer}
-use Rattle.erasure.specs.declared.Answer.the-variants.{Erased as ErasedAnswer, Cut, Refused as RefusedAnswer}
+use Rattle.erasure.specs.declared.Answer.the-variants.{Ended as EndedAnswer, Cut, Refused as RefusedAnswer}
 use Rattle.erasure.specs.Erasure.{partitionTests, uncutOf, Outcome as Erasure}
 use Rattle.codec.specs.declared.Command.{Command}
 use Rattle.codec.specs.declared.Command.the-variants.{Clkc, Klod, Kunl, Fers, Fsta, Unknown}
@@ -20,7 +20,7 @@ use Rattle.codec.specs.Request.{requestTests}
 use Rattle.engine.specs.Engine.{engineBlock}
 use Rattle.engine.specs.declared.Order.the-variants.{Nothing, Clear as ClearOrder, Load as LoadOrder, Unload as UnloadOrder}
 use Rattle.mailbox.specs.declared.Action.{Action}
-use Rattle.mailbox.specs.declared.Action.the-variants.{Refuse, Clear, Load, Unload, Erased, Status}
+use Rattle.mailbox.specs.declared.Action.the-variants.{Refuse, Clear, Load, Unload, Ended, Status}
 use Rattle.mailbox.specs.declared.Reply.{Reply}
 use Rattle.mailbox.specs.declared.Reply.the-variants.{Refused, Accepted}
 
@@ -53,7 +53,7 @@ refuseWith cells number = did (Refuse number) cells
 
 -- FERS, by what its erasure answers: short pairs and first short cell, or refusal 15. It is not cut: no order reaches its cut
 abbrev pub fersAction : Answer → Action
-fersAction (ErasedAnswer short first burns) = Erased short first
+fersAction (EndedAnswer short first burns) = Ended short first
 fersAction (RefusedAnswer number burns) = Refuse number
 fersAction (Cut burns) = Refuse 15
 
@@ -137,7 +137,7 @@ refusing (Refuse n) = true
 refusing (Clear timeout) = false
 refusing (Load place tag timeout) = false
 refusing (Unload place tag timeout) = false
-refusing (Erased short first) = false
+refusing (Ended short first) = false
 refusing (Status slot) = false
 
 -- the command whose row of the table an action is
@@ -146,7 +146,7 @@ commandIn (Refuse n) = Unknown
 commandIn (Clear timeout) = Clkc
 commandIn (Load place tag timeout) = Klod
 commandIn (Unload place tag timeout) = Kunl
-commandIn (Erased short first) = Fers
+commandIn (Ended short first) = Fers
 commandIn (Status slot) = Fsta
 
 -- the cache: "CLKC empties it", a load takes its place, an unload frees it
@@ -155,7 +155,7 @@ cacheAfter (Refuse n) cache = cache
 cacheAfter (Clear timeout) cache = empty
 cacheAfter (Load place tag timeout) cache = loaded place tag cache
 cacheAfter (Unload place tag timeout) cache = freed place cache
-cacheAfter (Erased short first) cache = cache
+cacheAfter (Ended short first) cache = cache
 cacheAfter (Status slot) cache = cache
 
 -- the column "engine": "clear; block all zero", "load; MEK, METD = tag .., AUX zero", "unload; as load with MEK zero"; "Where the
@@ -165,7 +165,7 @@ blockAfter (Refuse n) request block = block
 blockAfter (Clear timeout) request block = engineBlock [] 0
 blockAfter (Load place tag timeout) request block = engineBlock (mekAt (requestFields Klod) request) tag
 blockAfter (Unload place tag timeout) request block = engineBlock [] tag
-blockAfter (Erased short first) request block = block
+blockAfter (Ended short first) request block = block
 blockAfter (Status slot) request block = block
 
 -- "HEK available 1 or 0"
@@ -179,7 +179,7 @@ valueIn (Refuse n) field = 0
 valueIn (Clear timeout) field = 0
 valueIn (Load place tag timeout) field = cond (same field Place) place 0
 valueIn (Unload place tag timeout) field = 0
-valueIn (Erased short first) field = cond (same field Short-pairs) short (cond (same field First-short) first 0)
+valueIn (Ended short first) field = cond (same field Short-pairs) short (cond (same field First-short) first 0)
 valueIn (Status slot) field = cond (same field Active-slot) (slotNumber slot) (cond (same field Hek-available) (hekNumber slot) 0)
 
 -- the bytes of the fields after reserved
@@ -199,7 +199,7 @@ replyOf (Refuse n) = Refused n
 replyOf (Clear timeout) = Accepted (lengthOf (responseFields Clkc)) (ClearOrder timeout)
 replyOf (Load place tag timeout) = Accepted (lengthOf (responseFields Klod)) (LoadOrder place timeout)
 replyOf (Unload place tag timeout) = Accepted (lengthOf (responseFields Kunl)) (UnloadOrder place timeout)
-replyOf (Erased short first) = Accepted (lengthOf (responseFields Fers)) Nothing
+replyOf (Ended short first) = Accepted (lengthOf (responseFields Fers)) Nothing
 replyOf (Status slot) = Accepted (lengthOf (responseFields Fsta)) Nothing
 
 -- ---- what a call leaves

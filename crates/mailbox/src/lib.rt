@@ -27,7 +27,7 @@ pub enum Action {
     Clear { timeout: u32 },
     Load { place: u32, tag: u64, timeout: u32 },
     Unload { place: u32, tag: u64, timeout: u32 },
-    Erased { short: u32, first: u32 },
+    Ended { short: u32, first: u32 },
     Status(ActiveSlot),
 }
 
@@ -95,11 +95,11 @@ fn fers_action(answer: Answer) -> Action
     ensures { λ r. ⌜ r ≡ fersAction answer ⌝ }
 {
     match answer {
-        Answer::Erased {
+        Answer::Ended {
             short,
             first,
             burns: _,
-        } => Action::Erased {
+        } => Action::Ended {
             short: short,
             first: first,
         },
@@ -202,7 +202,7 @@ fn is_refused(action: Action) -> bool
             tag: _,
             timeout: _,
         } => false,
-        Action::Erased { short: _, first: _ } => false,
+        Action::Ended { short: _, first: _ } => false,
         Action::Status(_) => false,
     }
 }
@@ -224,7 +224,7 @@ fn update_cache(kinds: &mut [u8; 16], tags: &mut [u64; 16], action: Action)
             tag: _,
             timeout: _,
         } => cache::free(kinds, tags, place),
-        Action::Erased { short: _, first: _ } => (),
+        Action::Ended { short: _, first: _ } => (),
         Action::Status(_) => (),
     }
 }
@@ -248,7 +248,7 @@ fn update_block(block: &mut [u8], request: &[u8], action: Action)
             tag,
             timeout: _,
         } => engine::write_block(block, &request[..0], tag),
-        Action::Erased { short: _, first: _ } => (),
+        Action::Ended { short: _, first: _ } => (),
         Action::Status(_) => (),
     }
 }
@@ -278,7 +278,7 @@ fn put_fields(out: &mut [u8], at: usize, action: Action) -> usize
             tag: _,
             timeout: _,
         } => at,
-        Action::Erased { short, first } => {
+        Action::Ended { short, first } => {
             let next = endian::put_u32(out, at, short);
             endian::put_u32(out, next, first)
         }
@@ -338,7 +338,7 @@ fn reply_of(action: Action) -> Reply
                 timeout: timeout,
             },
         ),
-        Action::Erased { short: _, first: _ } => accepted(20, Order::Nothing),
+        Action::Ended { short: _, first: _ } => accepted(20, Order::Nothing),
         Action::Status(_) => accepted(20, Order::Nothing),
     }
 }

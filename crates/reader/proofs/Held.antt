@@ -1,5 +1,5 @@
 -- What the walks over a `MapReader` share: its type; that it is Copy, so that what it owns is had twice; and that a reader that was passed by value lends its image to a callee and is kept whole for the exit: of one copy what its image owns is taken out.
--- Assumes `Given`.
+-- Assumes nothing: `Given` is what every walk is handed.
 use mathlib.Core.Path.{_≡_}
 use mathlib.Core.List.{[], _∷_}
 use lib.ListN.{length}

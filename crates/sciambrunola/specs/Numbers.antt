@@ -16,7 +16,7 @@ use Rattle.direct.specs.declared.Answer.{Answer}
 use Rattle.direct.specs.declared.Answer.the-variants.{Word, Done, Withheld, Refused as RefusedAnswer}
 use Rattle.direct.specs.Direct.{Outcome as DirectOutcome}
 use Rattle.erasure.specs.declared.Answer.{Answer as Erasure}
-use Rattle.erasure.specs.declared.Answer.the-variants.{Erased, Cut, Refused as RefusedErasure}
+use Rattle.erasure.specs.declared.Answer.the-variants.{Ended, Cut, Refused as RefusedErasure}
 use Rattle.erasure.specs.Erasure.{CutOutcome, Outcome as ErasureOutcome}
 use Rattle.mailbox.specs.declared.Reply.{Reply}
 use Rattle.mailbox.specs.declared.Reply.the-variants.{Refused, Accepted}
@@ -50,7 +50,7 @@ answerNumbers (RefusedAnswer number) = record { kind = 3; refusal = number; word
 -- "the number of short pairs .. and the first cell of the lowest one .. and the number of burns"; "it was cut and the burns carried out";
 -- refused, and "one burn is reported" for 15
 abbrev pub erasureNumbers : Erasure → SciErasure
-erasureNumbers (Erased short first burns) = record { kind = 0; refusal = 0; short = short; first = first; burns = burns }
+erasureNumbers (Ended short first burns) = record { kind = 0; refusal = 0; short = short; first = first; burns = burns }
 erasureNumbers (Cut burns) = record { kind = 1; refusal = 0; short = 0; first = 0; burns = burns }
 erasureNumbers (RefusedErasure number burns) = record { kind = 2; refusal = number; short = 0; first = 0; burns = burns }
 

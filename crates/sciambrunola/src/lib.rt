@@ -48,7 +48,7 @@ pub struct SciAnswer {
     pub word: u64,
 }
 
-// An erasure's answer. kind: 0 erased, 1 cut, 2 refused.
+// An erasure's answer. kind: 0 ended (the partition is erased only if `short` is 0), 1 cut, 2 refused.
 #[repr(C)]
 pub struct SciErasure {
     pub kind: u32,
@@ -149,7 +149,7 @@ fn flat_erasure(answer: Erasure) -> SciErasure
     ensures { λ r. ⌜ r ≡ erasureNumbers answer ⌝ }
 {
     match answer {
-        Erasure::Erased {
+        Erasure::Ended {
             short,
             first,
             burns,

@@ -30,7 +30,7 @@ four-states = refl
 
 -- 1 before 2, and nothing is listed
 refusals :
-    listed [] [] [] ∷ listed fourSlots [] (replicate 24 0) ∷ listed fourSlots (replicate 24 0) [] ∷ []
+    listed [] (0 ∷ []) [] ∷ listed fourSlots [] (replicate 24 0) ∷ listed fourSlots (replicate 24 0) [] ∷ []
     ≡ refusedOf (replicate 5 9) (replicate 5 8) 1 ∷ refusedOf (replicate 5 9) (replicate 5 8) 2 ∷ refusedOf (replicate 5 9) (replicate 5 8) 2 ∷ []
 unfolding mapGood wholeArrays every headerGood fillerGood entryGood placeGood allBelow u16At
 refusals = refl

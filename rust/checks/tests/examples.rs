@@ -59,8 +59,9 @@ fn check(program: &Path) {
     assert_eq!(run(program, &[]), ends(0, ERASED, ""));
     assert_eq!(run(program, &["0F"]), ends(0, ERASED, ""));
     assert_eq!(run(program, &["1F"]), ends(1, TORN, WARNING));
-    for wrong in [&["no mark"][..], &[""], &["1F", "1F"]] {
-        let (status, printed, warning) = run(program, wrong);
+    let wrong = ["no mark", "", "100000000", "-1", "+1F", " 1F", "0x1F"].map(|mark| vec![mark]);
+    for wrong in wrong.into_iter().chain([vec!["1F", "1F"]]) {
+        let (status, printed, warning) = run(program, &wrong);
         assert_eq!((status, printed.as_str()), (Some(1), ""), "{wrong:?}");
         assert!(warning.starts_with("usage: "), "{warning}");
     }

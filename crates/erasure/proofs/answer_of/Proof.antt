@@ -1,7 +1,7 @@
 -- `erasure::answer_of` meets its contract: by how the run ended; its numbers fit, since the map is good. Assumes nothing.
 use mathlib.Core.Path.{refl}
 use native.Mathlib.Omega.{arith}
-use Rattle.erasure.specs.Laws.{count-fits, first-short-fits, erased-is, ended}
+use Rattle.erasure.specs.Laws.{count-fits, first-short-fits, ended-is, ended}
 use borrow.Author.Needs.{needs}
 use Rattle.erasure.proofs.answer_of.Statement.{statement}
 use Rattle.erasure.proofs.answer_of.Tie as tie
@@ -49,7 +49,7 @@ returns : tie.Need-returns
 returns c =
     let part = c .before .before .before .before in
     let x = part .before in
-    ended _ _ _ (x .before .before .enum-told .given .1) (erased-is _ _ _ _ (x .before .read-header .ensures) (x .read-entry .ensures) (part .part-of .ensures) (c .before .before .shorts-of .ensures) (c .first-short .ensures))
+    ended _ _ _ (x .before .before .enum-told .given .1) (ended-is _ _ _ _ (x .before .read-header .ensures) (x .read-entry .ensures) (part .part-of .ensures) (c .before .before .shorts-of .ensures) (c .first-short .ensures))
 
 returns-2 : tie.Need-returns-2
 returns-2 c = ended _ _ _ (c .enum-told2 .given .1) refl

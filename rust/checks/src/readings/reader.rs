@@ -38,7 +38,7 @@ impl Arrays {
     }
 }
 
-/// "on refusal all else is 0"
+/// What the header says of a refusal: all but its number is 0.
 fn refused(number: u32) -> Fields {
     [number, 0, 0, 0, 0, 0, 0, 0]
 }

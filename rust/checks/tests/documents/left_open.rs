@@ -8,7 +8,7 @@ use std::path::Path;
 /// Where documents are.
 const PLACES: [&str; 3] = ["README.md", "docs", "drives/README.md"];
 
-const LEFT_OPEN: [&str; 3] = ["GATE", "GATE-TIME", "TODO"];
+const LEFT_OPEN: [&str; 4] = ["GATE", "GATE-TIME", "TIMES", "TODO"];
 
 /// Adds what is left open in a file, or in every file below a folder.
 fn collect(path: &Path, found: &mut Vec<String>) {
