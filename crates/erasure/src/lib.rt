@@ -18,8 +18,9 @@ ghost use Rattle.cache.specs.Cache.{cacheOf, empty};
 ghost use Rattle.erasure.specs.Erasure.{partitionTests, Erasable, runOn, firstShort, answerBy, isCut, left, leftBy, leftAll, uncutOf, eraseOf, erasureOf, cutErasureOf};
 
 // What an erasure answers: that it ended, its short pairs, the first cell of the lowest one (0xFFFFFFFF
-// if none) and the burns carried out, and the partition is erased only if no pair is short; or that it was cut, and the burns carried out; or the refusal's number, and
-// the burns carried out, none but the indicator's of refusal 15.
+// if none) and the burns carried out; the partition is then erased only if no pair is short. Or that it
+// was cut, and the burns carried out. Or the refusal's number, and the burns carried out, none but the
+// indicator's of refusal 15.
 pub enum Answer {
     Ended { short: u32, first: u32, burns: u32 },
     Cut { burns: u32 },
