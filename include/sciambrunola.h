@@ -5,21 +5,22 @@
  * built for x86-64 Linux (System V calling convention), position-independent,
  * with no heap, no C library and no undefined symbol.
  *
- * Any bytes, cells, marks, requests and lengths get an answer, and every call
- * ends. What the caller must see to, and all of it:
+ * Any bytes, cells, marks, contexts, requests and lengths get an answer, and
+ * every call ends. What the caller must see to, and all of it:
  *   - every pointer is valid for its count (and not null, even for a count of
  *     0) and aligned for its type; a count is in elements of that type;
- *   - kinds and tags are arrays of SCI_PLACES elements, states and short_pairs
- *     arrays of SCI_PARTITIONS;
+ *   - context points to one sci_context; states and short_pairs are arrays of
+ *     SCI_PARTITIONS elements;
  *   - a buffer that a call may write, that is one whose pointer is not const
- *     (cells, but for sci_states; for sci_erase_cut, sci_restart and
- *     sci_mailbox also kinds and tags; for sci_mailbox also response and block;
- *     for sci_states states and short_pairs), overlaps no other buffer of the
- *     call. Buffers that are const may overlap.
- * Nothing is kept between calls: all that a call knows is what it is lent.
+ *     (cells, but for sci_states; context, but for sci_cache_place; for
+ *     sci_mailbox also response and block; for sci_states states and
+ *     short_pairs), overlaps no other buffer of the call. Buffers that are const
+ *     may overlap.
+ * The archive has no memory of its own: all that a call knows is what it is lent,
+ * and all that is kept between calls is the caller's.
  *
  * What is lent to every function, save that sci_partition gets the image only,
- * sci_restart kinds and tags only, and sci_states no kinds and tags:
+ * sci_restart and sci_cache_place the context only, and sci_states no context:
  *   image, image_bytes  the map of the fuses, as below; only read
  *   cells, cell_count   the fuse cells, 32 fuses each; written by sci_write,
  *                       sci_zeroize, sci_erase, sci_erase_cut and, for FERS
@@ -28,12 +29,19 @@
  *   marks, mark_count   the stuck marks, one number for each cell: a fuse whose
  *                       bit is set here will not burn; if it is set, it stays
  *                       so. Only read
- *   kinds, tags         the key cache: kinds[i] is 0 where place i is empty,
- *                       and tags[i] is then not looked at; otherwise the place
- *                       holds tags[i]. Any kind other than 0 is read as held.
- *                       Written by sci_mailbox, sci_erase_cut and sci_restart
- *                       alone: a place that is filled gets kind 1, one that is
- *                       emptied kind 0 and tag 0. All zeros are an empty cache.
+ *   context             what the key block keeps from call to call: the key
+ *                       cache, SCI_PLACES places, each empty or holding a 64-bit
+ *                       tag; one that is emptied keeps nothing of its tag. Have
+ *                       one sci_context for each drive, all zeros before its
+ *                       first call (sci_context context = {0};), which is an
+ *                       empty cache, and keep it between calls. Do not change or
+ *                       interpret its words: later releases may add to them and
+ *                       lay them out otherwise, so compile with the header of
+ *                       the archive that you link. sci_cache_place tells what a
+ *                       place holds. Changed by sci_mailbox, sci_erase_cut and
+ *                       sci_restart alone. sci_read, sci_write, sci_zeroize and
+ *                       sci_erase leave it as it was, though the pointer is not
+ *                       const there either
  *
  * The map, all numbers little-endian:
  *   header      four u16: partitions P (1 to 16), cells C (4 to 2,048), bound B
@@ -100,6 +108,8 @@ extern "C" {
 
 /* Places of the key cache. */
 #define SCI_PLACES 16
+/* Words of a sci_context. */
+#define SCI_CONTEXT_WORDS 32
 /* Bytes of the engine block: MEK at 00h, METD at 40h, AUX at 60h. */
 #define SCI_BLOCK_BYTES 128
 /* The shortest response buffer that is accepted. */
@@ -140,6 +150,10 @@ extern "C" {
 #define SCI_STATE_BLANK 2
 #define SCI_STATE_PROGRAMMED 3
 
+/* sci_place.kind */
+#define SCI_PLACE_EMPTY 0
+#define SCI_PLACE_HELD 1
+
 /* sci_answer.kind. Why a command was refused is in sci_answer.refusal. */
 #define SCI_WORD 0
 #define SCI_DONE 1
@@ -171,6 +185,12 @@ extern "C" {
 #define SCI_FERS UINT32_C(0x46455253)
 #define SCI_FSTA UINT32_C(0x46535441)
 
+/* What the key block keeps between calls, all zeros at first. The caller keeps it for
+ * the key block, and neither changes nor interprets its words. */
+typedef struct {
+    uint64_t words[SCI_CONTEXT_WORDS];
+} sci_context;
+
 /* What the map says of a partition, and of the whole array. On refusal all but
  * the refusal's number is 0. */
 typedef struct {
@@ -189,6 +209,12 @@ typedef struct {
     uint32_t refusal;    /* the refusal's number, else 0 */
     uint32_t partitions; /* P, the states that were written; 0 on refusal */
 } sci_listing;
+
+/* What sci_cache_place answers. */
+typedef struct {
+    uint32_t kind; /* SCI_PLACE_EMPTY or SCI_PLACE_HELD */
+    uint64_t tag;  /* the tag that the place holds, 0 where it is empty */
+} sci_place;
 
 /* What a direct command answers. */
 typedef struct {
@@ -242,6 +268,13 @@ sci_listing sci_states(const uint8_t *image, size_t image_bytes,
                        uint32_t states[SCI_PARTITIONS], uint32_t short_pairs[SCI_PARTITIONS]);
 
 /*
+ * What the key cache has in the place of this number, 0 to SCI_PLACES - 1. There
+ * is no place past these, nothing is held there, and it is told as an empty one.
+ * Changes nothing. It cannot be refused.
+ */
+sci_place sci_cache_place(const sci_context *context, uint32_t place);
+
+/*
  * READ of the word that starts at this cell. Answers the word; one of 32 bits
  * has zeros above them. Changes nothing.
  * Refused: 1, 2, 7; 8 in a secret partition.
@@ -249,8 +282,7 @@ sci_listing sci_states(const uint8_t *image, size_t image_bytes,
 sci_answer sci_read(const uint8_t *image, size_t image_bytes,
                     uint32_t *cells, size_t cell_count,
                     const uint32_t *marks, size_t mark_count,
-                    const uint8_t kinds[SCI_PLACES], const uint64_t tags[SCI_PLACES],
-                    uint32_t cell);
+                    sci_context *context, uint32_t cell);
 
 /*
  * WRITE of a value to the data word that starts at this cell. Burns each fuse
@@ -265,8 +297,7 @@ sci_answer sci_read(const uint8_t *image, size_t image_bytes,
 sci_answer sci_write(const uint8_t *image, size_t image_bytes,
                      uint32_t *cells, size_t cell_count,
                      const uint32_t *marks, size_t mark_count,
-                     const uint8_t kinds[SCI_PLACES], const uint64_t tags[SCI_PLACES],
-                     uint32_t cell, uint64_t value);
+                     sci_context *context, uint32_t cell, uint64_t value);
 
 /*
  * ZEROIZE of the word that starts at this cell. Burns each of its fuses that
@@ -278,8 +309,7 @@ sci_answer sci_write(const uint8_t *image, size_t image_bytes,
 sci_answer sci_zeroize(const uint8_t *image, size_t image_bytes,
                        uint32_t *cells, size_t cell_count,
                        const uint32_t *marks, size_t mark_count,
-                       const uint8_t kinds[SCI_PLACES], const uint64_t tags[SCI_PLACES],
-                       uint32_t cell);
+                       sci_context *context, uint32_t cell);
 
 /*
  * Erasure of the partition of this number. Burns, in this order, every fuse
@@ -294,40 +324,39 @@ sci_answer sci_zeroize(const uint8_t *image, size_t image_bytes,
  * the first time, or as it would have if that one was cut, where no key is held
  * either time, the image and the marks are the same, and since then no other
  * call or writer has changed the cells: only this one, sci_erase_cut and FERS,
- * each of this partition. The cache is only read.
+ * each of this partition. The context stays as it was.
  * Refused: 1, 2; 7 if there is no such partition; 8 if it is not zeroizable;
  * 10; 15.
  */
 sci_erasure sci_erase(const uint8_t *image, size_t image_bytes,
                       uint32_t *cells, size_t cell_count,
                       const uint32_t *marks, size_t mark_count,
-                      const uint8_t kinds[SCI_PLACES], const uint64_t tags[SCI_PLACES],
-                      uint32_t partition);
+                      sci_context *context, uint32_t partition);
 
 /*
  * The erasure of sci_erase, cut by a power failure at burn k, counted from 0:
  * the burns before it are whole, burn k has the mask in place of all ones (its
  * low half for the first cell of a pair; its low 32 bits for a 32-bit word), and
- * nothing follows. Then the cache is empty, all kinds and tags 0. Answers
- * SCI_CUT and k + 1 burns.
+ * nothing follows. Then every place of the cache is empty. Answers SCI_CUT and
+ * k + 1 burns.
  * If the erasure would end before burn k, at the end of its order or with 15,
- * it is sci_erase: the answer and the cells are the same, and the cache stays.
+ * it is sci_erase: the answer and the cells are the same, and the context stays
+ * as it was.
  * A cut at k = 0 is never refused with 15.
- * Refused: as sci_erase; the cache stays.
+ * Refused: as sci_erase; the context stays as it was.
  */
 sci_erasure sci_erase_cut(const uint8_t *image, size_t image_bytes,
                           uint32_t *cells, size_t cell_count,
                           const uint32_t *marks, size_t mark_count,
-                          uint8_t kinds[SCI_PLACES], uint64_t tags[SCI_PLACES],
-                          uint32_t partition, uint32_t k, uint64_t mask);
+                          sci_context *context, uint32_t partition, uint32_t k, uint64_t mask);
 
 /*
- * Call it when the drive has restarted, and the engine with it. Empties the
- * cache, all kinds and tags 0, and changes nothing else. It cannot be refused.
+ * Call it when the drive has restarted, and the engine with it. Empties every
+ * place of the cache, and changes nothing else. It cannot be refused.
  * No order is given to the engine, which would keep its keys if it had not
  * restarted: to free a slot in operation use KUNL or CLKC.
  */
-void sci_restart(uint8_t kinds[SCI_PLACES], uint64_t tags[SCI_PLACES]);
+void sci_restart(sci_context *context);
 
 /*
  * A mailbox command. Fields are little-endian u32, but for the 64 MEK bytes.
@@ -360,7 +389,7 @@ void sci_restart(uint8_t kinds[SCI_PLACES], uint64_t tags[SCI_PLACES]);
  * the block is as for a load with the MEK zero.
  * FERS is sci_erase of the partition that it names: it is erased only if the
  * response's short pairs are 0; otherwise it is torn, and its seed may still be
- * there. The block and the cache are unchanged, and there is no order for the
+ * there. The block and the context are unchanged, and there is no order for the
  * engine.
  * FSTA changes nothing but the response; there is no order for the engine.
  *
@@ -374,8 +403,7 @@ void sci_restart(uint8_t kinds[SCI_PLACES], uint64_t tags[SCI_PLACES]);
 sci_reply sci_mailbox(const uint8_t *image, size_t image_bytes,
                       uint32_t *cells, size_t cell_count,
                       const uint32_t *marks, size_t mark_count,
-                      uint8_t kinds[SCI_PLACES], uint64_t tags[SCI_PLACES],
-                      uint32_t code,
+                      sci_context *context, uint32_t code,
                       const uint8_t *request, size_t request_bytes,
                       uint8_t *response, size_t response_bytes,
                       uint8_t *block, size_t block_bytes);

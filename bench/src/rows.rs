@@ -2,7 +2,6 @@
 
 use crate::row::{Call, Row};
 use checks::random::Random;
-use model::cache::Cache;
 use model::drive::Drive;
 use model::image::{entry, Image, SLOT_FLAGS};
 use model::lent::Lent;
@@ -59,7 +58,7 @@ fn erasures(name: &str, drive: Drive) -> [Row; 2] {
 /// A call with an empty cache, on a drive that it leaves fit for the same again.
 fn row(name: &str, drive: Drive, call: Call) -> Row {
     let (block, response) = (vec![0xB1; BLOCK_BYTES], vec![0xA5; LEAST_RESPONSE]);
-    let start = Lent { drive, cache: Cache::default(), block, response };
+    let start = Lent { drive, block, response, ..Lent::default() };
     Row { name: name.to_string(), start, call, put_back: false }
 }
 

@@ -9,6 +9,7 @@ use crate::row::{Call, Row};
 use by_library::Library;
 use by_model::Model;
 use by_plain::Plain;
+use sciambrunola::Context;
 
 /// A key block with what it is lent.
 pub trait Side {
@@ -25,8 +26,8 @@ pub trait Side {
 pub struct Left {
     /// The fuse cells.
     pub cells: Vec<u32>,
-    /// The places of the cache.
-    pub places: Vec<Option<u64>>,
+    /// What is kept between calls, whole.
+    pub context: Context,
     /// The engine block.
     pub block: Vec<u8>,
     /// The response buffer.

@@ -36,12 +36,12 @@ static const uint8_t map[] = {
     6, 0, 6, 0, SCI_KIND_SOFTWARE, 0, 0, 0           /* from cell 6 on 6 cells; no flags */
 };
 
-/* The library keeps nothing. The fuses, one of them set, their stuck marks, and the
- * key cache, here empty, are ours, and lent to it for each call. */
+/* The library has no memory of its own. The fuses, one of them set, their stuck marks,
+ * and the context, in which it keeps the key cache, here empty, are ours, and lent to
+ * it for each call. */
 static uint32_t cells[CELLS] = {1};
 static uint32_t marks[CELLS];
-static uint8_t kinds[SCI_PLACES];
-static uint64_t tags[SCI_PLACES];
+static sci_context context = {0};
 /* So are the mailbox's buffers. */
 static uint8_t response[SCI_LEAST_RESPONSE];
 static uint8_t block[SCI_BLOCK_BYTES];
@@ -128,7 +128,7 @@ static sci_reply ask(uint32_t code, uint8_t *request, size_t request_bytes)
         sum += request[i];
     }
     put_field(request, 0 - sum);
-    return sci_mailbox(map, sizeof map, cells, CELLS, marks, CELLS, kinds, tags, code,
+    return sci_mailbox(map, sizeof map, cells, CELLS, marks, CELLS, &context, code,
                        request, request_bytes, response, sizeof response, block, sizeof block);
 }
 
@@ -172,7 +172,7 @@ static bool ask_for_status(bool must_be_available)
 
 static sci_erasure erase(void)
 {
-    sci_erasure erasure = sci_erase(map, sizeof map, cells, CELLS, marks, CELLS, kinds, tags, SLOT);
+    sci_erasure erasure = sci_erase(map, sizeof map, cells, CELLS, marks, CELLS, &context, SLOT);
     if (erasure.kind == SCI_ENDED) {
         printf("erasure: %" PRIu32 " short, %" PRIu32 " burns\n", erasure.short_pairs,
                erasure.burns);
@@ -196,16 +196,18 @@ static bool erase_with_key_held(void)
  * goes on unloads its keys with KUNL or CLKC, which have an order for the engine. */
 static bool restart(void)
 {
-    sci_restart(kinds, tags);
-    printf("restart: place 0 is %s\n", kinds[0] == 0 ? "empty" : "held");
-    return kinds[0] == 0 || failed("restart", 0);
+    bool empty;
+    sci_restart(&context);
+    empty = sci_cache_place(&context, 0).kind == SCI_PLACE_EMPTY;
+    printf("restart: place 0 is %s\n", empty ? "empty" : "held");
+    return empty || failed("restart", 0);
 }
 
 /* What a power failure leaves that comes at burn 1, the first data word, when its
  * low half has burned: for trying out what the drive does when it is back. */
 static bool erase_slot_cut(void)
 {
-    sci_erasure erasure = sci_erase_cut(map, sizeof map, cells, CELLS, marks, CELLS, kinds, tags,
+    sci_erasure erasure = sci_erase_cut(map, sizeof map, cells, CELLS, marks, CELLS, &context,
                                         SLOT, 1, UINT32_C(0xFFFFFFFF));
     if (erasure.kind != SCI_CUT) {
         return failed("cut erasure", erasure.refusal);

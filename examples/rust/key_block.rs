@@ -13,7 +13,7 @@
 
 use sciambrunola::{code, flag, kind, refusal, BLOCK_BYTES, LEAST_RESPONSE};
 use sciambrunola::{erase, erase_cut, mailbox, partition, restart, states};
-use sciambrunola::{Cache, Erasure, Fields, Order, Reply, States};
+use sciambrunola::{Context, Erasure, Fields, Order, Reply, States};
 use std::fmt::Debug;
 use std::process::ExitCode;
 
@@ -33,14 +33,15 @@ const MAP: [u8; 24] = [
     6, 0, 6, 0, kind::SOFTWARE as u8, 0, 0, 0,          // from cell 6 on 6 cells; no flags
 ];
 
-/// The library keeps nothing: all of this is ours, and lent to it for each call.
+/// The library has no memory of its own: all of this is ours, and lent to it for each
+/// call.
 struct Drive {
     /// The fuses; one is set.
     cells: [u32; 12],
     /// Their stuck marks.
     marks: [u32; 12],
-    /// The key cache; it is empty.
-    cache: Cache,
+    /// What the library keeps between calls: the key cache, here empty.
+    context: Context,
     /// The buffers of the mailbox.
     response: [u8; LEAST_RESPONSE],
     block: [u8; BLOCK_BYTES],
@@ -98,8 +99,8 @@ impl Drive {
         let summed = code.to_le_bytes().into_iter().chain(request[4..].iter().copied());
         let sum = summed.fold(0_u32, |sum, byte| sum.wrapping_add(byte.into()));
         put_field(request, 0, sum.wrapping_neg());
-        let Drive { cells, marks, cache, response, block } = self;
-        mailbox(&MAP, cells, marks, cache, code, request, response, block)
+        let Drive { cells, marks, context, response, block } = self;
+        mailbox(&MAP, cells, marks, context, code, request, response, block)
     }
 
     fn load_key(&mut self, tag: u64, mek: &[u8; 64]) -> Step {
@@ -138,7 +139,7 @@ impl Drive {
     }
 
     fn erase(&mut self) -> Erasure {
-        let erasure = erase(&MAP, &mut self.cells, &self.marks, &self.cache, SLOT);
+        let erasure = erase(&MAP, &mut self.cells, &self.marks, &mut self.context, SLOT);
         match erasure {
             Erasure::Ended { short_pairs, burns, .. } => {
                 println!("erasure: {short_pairs} short, {burns} burns");
@@ -161,8 +162,8 @@ impl Drive {
     /// that goes on unloads its keys with KUNL or CLKC, which have an order for the
     /// engine.
     fn restart(&mut self) -> Step {
-        restart(&mut self.cache);
-        let held = self.cache.place(0);
+        restart(&mut self.context);
+        let held = self.context.place(0);
         println!("restart: place 0 is {}", held.map_or("empty", |_| "held"));
         held.map_or(Ok(()), |tag| failed("restart", tag))
     }
@@ -184,8 +185,8 @@ impl Drive {
     /// What a power failure leaves that comes at burn 1, the first data word, when
     /// its low half has burned: for trying out what the drive does when it is back.
     fn erase_slot_cut(&mut self) -> Step {
-        let Drive { cells, marks, cache, .. } = self;
-        match erase_cut(&MAP, cells, marks, cache, SLOT, 1, 0xFFFF_FFFF) {
+        let Drive { cells, marks, context, .. } = self;
+        match erase_cut(&MAP, cells, marks, context, SLOT, 1, 0xFFFF_FFFF) {
             Erasure::Cut { burns } => {
                 println!("erasure cut: {burns} burns");
                 Ok(())
@@ -235,7 +236,7 @@ fn story() -> Step {
     let (mut cells, mut marks) = ([0; 12], [0; 12]);
     (cells[0], marks[1]) = (1, mark()?);
     let (response, block) = ([0; LEAST_RESPONSE], [0; BLOCK_BYTES]);
-    let mut drive = Drive { cells, marks, cache: Cache::default(), response, block };
+    let mut drive = Drive { cells, marks, context: Context::new(), response, block };
     read_map()?;
     drive.list_states()?;
     drive.ask_for_status(true)?;

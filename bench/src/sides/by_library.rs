@@ -3,29 +3,30 @@
 use super::{text, Left, Side};
 use crate::numbers::{refused, Numbered, Said};
 use crate::row::Call;
+use checks::context;
 use checks::readings::SAFE;
 use model::lent::Lent;
-use sciambrunola::{Cache, States, PLACES};
+use sciambrunola::{Context, States};
 
 /// The library with what it is lent.
 pub struct Library {
     lent: Lent,
-    cache: Cache,
-    start: Cache,
+    context: Context,
+    start: Context,
     states: Option<States>,
 }
 
 impl Library {
     /// The library at a start.
     pub fn new(start: &Lent) -> Library {
-        let cache = Cache::from_places(start.cache.places);
-        Library { lent: start.clone(), start: cache.clone(), cache, states: None }
+        let context = context::of(start);
+        Library { lent: start.clone(), start: context.clone(), context, states: None }
     }
 }
 
 impl Side for Library {
     fn answer(&mut self, call: &Call) -> Said {
-        let Library { lent, cache, .. } = self;
+        let Library { lent, context, .. } = self;
         let Lent { drive, response, block, .. } = lent;
         let (image, cells, marks) = (&drive.image, &mut drive.cells, &drive.marks);
         match call {
@@ -39,18 +40,18 @@ impl Side for Library {
                 }
             }
             Call::Erase { partition } => {
-                sciambrunola::erase(image, cells, marks, cache, *partition).numbers()
+                sciambrunola::erase(image, cells, marks, context, *partition).numbers()
             }
             Call::Mailbox(request) => {
                 let (code, request) = (request.code, &request.bytes);
-                sciambrunola::mailbox(image, cells, marks, cache, code, request, response, block)
+                sciambrunola::mailbox(image, cells, marks, context, code, request, response, block)
                     .numbers()
             }
         }
     }
 
     fn put_back(&mut self) {
-        self.cache.clone_from(&self.start);
+        self.context.clone_from(&self.start);
     }
 
     fn left(&self) -> Left {
@@ -61,7 +62,6 @@ impl Side for Library {
             }
             _ => vec![],
         };
-        let places = (0..PLACES).map(|i| self.cache.place(i)).collect();
-        Left { cells: drive.cells, places, block, response, states }
+        Left { cells: drive.cells, context: self.context.clone(), block, response, states }
     }
 }

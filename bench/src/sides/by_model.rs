@@ -3,6 +3,7 @@
 use super::{text, Left, Side};
 use crate::numbers::{refused, Numbered, Said};
 use crate::row::Call;
+use checks::context;
 use checks::readings::MODEL;
 use model::cache::Cache;
 use model::erasure::{self, Erase};
@@ -54,8 +55,9 @@ impl Side for Model {
     }
 
     fn left(&self) -> Left {
-        let Lent { drive, cache, block, response } = self.lent.clone();
+        let context = context::of(&self.lent);
+        let Lent { drive, block, response, .. } = self.lent.clone();
         let states = self.listed.iter().map(text).collect();
-        Left { cells: drive.cells, places: cache.places.to_vec(), block, response, states }
+        Left { cells: drive.cells, context, block, response, states }
     }
 }

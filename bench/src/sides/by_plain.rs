@@ -4,6 +4,7 @@ use super::{text, Left, Side};
 use crate::numbers::{accepted, erased, fields, refused, Said};
 use crate::plain::{self, Buffers, Cache, Drive, Order, State};
 use crate::row::Call;
+use checks::context;
 use model::lent::Lent;
 
 /// The plain Rust with what it is lent.
@@ -59,9 +60,12 @@ impl Side for Plain {
     }
 
     fn left(&self) -> Left {
-        let Lent { drive, block, response, .. } = self.lent.clone();
+        let mut lent = self.lent.clone();
+        lent.cache.places = self.cache;
+        let context = context::of(&lent);
+        let Lent { drive, block, response, .. } = lent;
         let states = self.listed[..self.partitions].iter().map(text).collect();
-        Left { cells: drive.cells, places: self.cache.to_vec(), block, response, states }
+        Left { cells: drive.cells, context, block, response, states }
     }
 }
 

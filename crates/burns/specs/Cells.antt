@@ -94,7 +94,8 @@ module _ (marks : List ℕ) where
   cell-fills cells j l k e = rw e (getD-set-same cells j _ 0 l ∙ burn-all (getD marks j 0) (getD cells j 0))
 
   -- all ones fill each cell of their word
-  pub burn-fills : (cells : List ℕ) (j : ℕ) → j < length cells → (k : ℕ) (wide : Bool) → k ≤ j → j < k + cellsIn wide → getD (burnWord marks k wide allOnes cells) j 0 ≡ full (getD marks j 0) (getD cells j 0)
+  pub burn-fills : (cells : List ℕ) (j : ℕ) → j < length cells → (k : ℕ) (wide : Bool) → k ≤ j → j < k + cellsIn wide
+      → getD (burnWord marks k wide allOnes cells) j 0 ≡ full (getD marks j 0) (getD cells j 0)
   unfolding burnWord
   burn-fills cells j l k true a b =
       let low = grown-cell k allSet cells in
@@ -108,7 +109,10 @@ module _ (marks : List ℕ) where
 
 -- a turn of a run stops or goes on: what holds of both holds of the run
 module _ (P : Ran → Type 0) (marks : List ℕ) (bound mask k : ℕ) (word : Word) (words : List Word) (t : Tally) where
-  pub turn-keeps : let u : Tally = carry marks word allOnes t in (stopsAfter bound (u .burns) (u .cells) ≡ true → P (ran Stopped u)) → (stopsAfter bound (u .burns) (u .cells) ≡ false → P (burnsOf marks bound mask k words u)) → P (burnsOf marks bound mask (suc k) (word ∷ words) t)
+  pub turn-keeps : let u : Tally = carry marks word allOnes t in
+      (stopsAfter bound (u .burns) (u .cells) ≡ true → P (ran Stopped u))
+      → (stopsAfter bound (u .burns) (u .cells) ≡ false → P (burnsOf marks bound mask k words u))
+      → P (burnsOf marks bound mask (suc k) (word ∷ words) t)
   unfolding burnsOf
   turn-keeps p q = cond-keeps P (stopsAfter bound _ _) _ _ p q
 
@@ -196,6 +200,8 @@ order-reaches software n j four even h =
     (lt-or-le j (n - 4))
 
 -- a run that goes through its order fills every cell; x is the cell at some time before
-pub run-fills : (marks : List ℕ) (software : Bool) (bound k mask : ℕ) (cells : List ℕ) (j x : ℕ) → 4 ≤ length cells → length cells % 2 ≡ 0 → j < length cells → Between (getD marks j 0) x (getD cells j 0) → run marks software bound k mask cells .end ≡ Whole → getD (run marks software bound k mask cells .tally .cells) j 0 ≡ full (getD marks j 0) x
+pub run-fills : (marks : List ℕ) (software : Bool) (bound k mask : ℕ) (cells : List ℕ) (j x : ℕ) → 4 ≤ length cells → length cells % 2 ≡ 0 → j < length cells
+    → Between (getD marks j 0) x (getD cells j 0) → run marks software bound k mask cells .end ≡ Whole
+    → getD (run marks software bound k mask cells .tally .cells) j 0 ≡ full (getD marks j 0) x
 run-fills marks software bound k mask cells j x four even l b =
     burns-fill marks bound mask j x k (order software (length cells)) (start cells) l b (order-reaches software (length cells) j four even l)

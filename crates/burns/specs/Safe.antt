@@ -20,7 +20,8 @@ use Rattle.burns.specs.declared.End.{End}
 use Rattle.burns.specs.declared.End.the-variants.{Whole, Stopped, Cut}
 use Rattle.burns.specs.Run.{pairFrom, dataWords, order, Tally, start, carry, goesOn, stopsAfter, Ran, ran, burnsOf, run}
 use Rattle.burns.specs.Turns.{stops-later}
-use Rattle.burns.specs.Cells.{full, Between, between-refl, between-trans, full-same, full-stays, Grown, grown-burn, burn-before, burn-fills, turn-keeps, grown-burns, cut-not-whole, stopped-not-whole, cut-not-stopped, run-fills}
+use Rattle.burns.specs.Cells.{full, Between, between-refl, between-trans, full-same, full-stays, Grown, grown-burn, burn-before, burn-fills, turn-keeps}
+use Rattle.burns.specs.Cells.{grown-burns, cut-not-whole, stopped-not-whole, cut-not-stopped, run-fills}
 
 -- ---- whether a run goes on after its first burn: all that is said of it here is in these three laws
 
@@ -38,7 +39,8 @@ on-same bound n c d two even p q f =
     rw (p, q, low, high)
 
 -- more fuses never stop it
-pub on-mono : (bound : ℕ) (c d : List ℕ) → length d ≡ length c → ((j : ℕ) → getD c j 0 < 2 ^ 32) → ((j : ℕ) → getD d j 0 < 2 ^ 32) → ((j : ℕ) → getD c j 0 ⊆ getD d j 0) → goesOn bound c ≡ true → goesOn bound d ≡ true
+pub on-mono : (bound : ℕ) (c d : List ℕ) → length d ≡ length c → ((j : ℕ) → getD c j 0 < 2 ^ 32) → ((j : ℕ) → getD d j 0 < 2 ^ 32)
+    → ((j : ℕ) → getD c j 0 ⊆ getD d j 0) → goesOn bound c ≡ true → goesOn bound d ≡ true
 unfolding goesOn shortAt
 on-mono bound c d len small small′ more on =
     let told = counted-tells true bound c on in
@@ -86,14 +88,18 @@ abbrev rest : (software : Bool) (n : ℕ) → List Word
 rest software n = dataWords software n ++ (pairFrom (n - 4) ∷ [])
 
 -- the run is cut in it, or stops after it, or goes on with the rest: what holds of all three holds of the run
-first-keeps : (P : Ran → Type 0) (marks : List ℕ) (software : Bool) (bound k mask n : ℕ) (c : List ℕ) → P (ran Cut (carry marks (pairFrom (n - 2)) mask (start c))) → (goesOn bound (first marks n c .cells) ≡ false → P (ran Stopped (first marks n c))) → ((j : ℕ) → goesOn bound (first marks n c .cells) ≡ true → P (burnsOf marks bound mask j (rest software n) (first marks n c))) → P (burnsOf marks bound mask k (order software n) (start c))
+first-keeps : (P : Ran → Type 0) (marks : List ℕ) (software : Bool) (bound k mask n : ℕ) (c : List ℕ)
+    → P (ran Cut (carry marks (pairFrom (n - 2)) mask (start c))) → (goesOn bound (first marks n c .cells) ≡ false → P (ran Stopped (first marks n c)))
+    → ((j : ℕ) → goesOn bound (first marks n c .cells) ≡ true → P (burnsOf marks bound mask j (rest software n) (first marks n c)))
+    → P (burnsOf marks bound mask k (order software n) (start c))
 unfolding burnsOf order stopsAfter
 first-keeps P marks software bound zero mask n c p q r = p
 first-keeps P marks software bound (suc k) mask n c p q r =
     turn-keeps P marks bound mask k (pairFrom (n - 2)) (rest software n) (start c) (λ b. q (not-true _ b)) (λ b. r k (not-false _ b))
 
 -- a run that stops has burned the indicator alone, and does not go on from what that left
-pub run-stopped : (marks : List ℕ) (software : Bool) (bound k mask : ℕ) (s : List ℕ) → run marks software bound k mask s .end ≡ Stopped → (run marks software bound k mask s .tally .cells ≡ burnWord marks (length s - 2) true allOnes s) × (goesOn bound (burnWord marks (length s - 2) true allOnes s) ≡ false)
+pub run-stopped : (marks : List ℕ) (software : Bool) (bound k mask : ℕ) (s : List ℕ) → run marks software bound k mask s .end ≡ Stopped
+    → (run marks software bound k mask s .tally .cells ≡ burnWord marks (length s - 2) true allOnes s) × (goesOn bound (burnWord marks (length s - 2) true allOnes s) ≡ false)
 run-stopped marks software bound k mask s =
     let after : List ℕ = burnWord marks (length s - 2) true allOnes s in
     first-keeps (λ (r : Ran). r .end ≡ Stopped → (r .tally .cells ≡ after) × (goesOn bound after ≡ false)) marks software bound k mask (length s) s
@@ -177,7 +183,8 @@ module _ (marks : List ℕ) (bound : ℕ) (s : List ℕ) (four : 4 ≤ length s)
       (λ (a : length s - 2 ≤ j). let m = rw len at l in first-full h j a m ∙ sym (first-full g j a m))
       (lt-or-le j (length s - 2)))
 
-  alike-from : (software : Bool) (k mask : ℕ) {c d : List ℕ} → Safe marks bound s c → Safe marks bound s d → Alike (burnsOf marks bound mask k (order software (length s)) (start c)) (burnsOf marks bound mask k (order software (length s)) (start d))
+  alike-from : (software : Bool) (k mask : ℕ) {c d : List ℕ} → Safe marks bound s c → Safe marks bound s d
+      → Alike (burnsOf marks bound mask k (order software (length s)) (start c)) (burnsOf marks bound mask k (order software (length s)) (start d))
   unfolding burnsOf order stopsAfter
   alike-from software zero mask h g = record { end = refl; burns = refl }
   alike-from software (suc k) mask {c} {d} h g =
@@ -191,7 +198,8 @@ pub length-run : (marks : List ℕ) (software : Bool) (bound k mask : ℕ) (s : 
 length-run marks software bound k mask s = grown-burns marks bound mask k (order software (length s)) (start s) .len
 
 -- a full cell stays full
-pub filled-kept : (marks : List ℕ) (software : Bool) (bound k mask : ℕ) (c : List ℕ) (j x : ℕ) → getD c j 0 ≡ full (getD marks j 0) x → getD (run marks software bound k mask c .tally .cells) j 0 ≡ full (getD marks j 0) x
+pub filled-kept : (marks : List ℕ) (software : Bool) (bound k mask : ℕ) (c : List ℕ) (j x : ℕ) → getD c j 0 ≡ full (getD marks j 0) x
+    → getD (run marks software bound k mask c .tally .cells) j 0 ≡ full (getD marks j 0) x
 filled-kept marks software bound k mask c j x e = full-stays (getD marks j 0) x e (grown-burns marks bound mask k (order software (length c)) (start c) .each j)
 
 -- ---- a run from safe cells

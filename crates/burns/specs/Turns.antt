@@ -139,7 +139,8 @@ module _ {marks : List ℕ} {software : Bool} {bound k mask : ℕ} {cells : List
     running-cut q b = sym (h .same ∙ run-cut marks bound mask (order software (length cells)) k (t .burns) t (pairFrom 0) l q ∙ rw (← e, ← b))
 
     module _ (q : t .burns ≡ k → ⊥) (b : u ≡ carry marks word allOnes t) where
-      turned : run marks software bound k mask cells ≡ cond (stopsAfter bound (u .burns) (u .cells)) (ran Stopped u) (burnsOf marks bound mask (k - (t .burns + 1)) (drop (t .burns + 1) (order software (length cells))) u)
+      turned : run marks software bound k mask cells
+          ≡ cond (stopsAfter bound (u .burns) (u .cells)) (ran Stopped u) (burnsOf marks bound mask (k - (t .burns + 1)) (drop (t .burns + 1) (order software (length cells))) u)
       turned = h .same ∙ run-turn marks bound mask (order software (length cells)) k (t .burns) t (pairFrom 0) l (omega (arith, h .uncut)) u (b ∙ ap (λ (w : Word). carry marks w allOnes t) e)
 
       pub running-stop : stopsAfter bound (u .burns) (u .cells) ≡ true → ran Stopped u ≡ run marks software bound k mask cells

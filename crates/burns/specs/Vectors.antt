@@ -17,7 +17,9 @@ abbrev zeros : ℕ → List ℕ
 zeros n = replicate n 0
 
 -- eight cells: indicator, data, digest; in a software partition the data words are single cells
-orders : order false 8 ∷ order true 8 ∷ [] ≡ (pairFrom 6 ∷ pairFrom 0 ∷ pairFrom 2 ∷ pairFrom 4 ∷ []) ∷ (pairFrom 6 ∷ wordFrom false 0 ∷ wordFrom false 1 ∷ wordFrom false 2 ∷ wordFrom false 3 ∷ pairFrom 4 ∷ []) ∷ []
+orders : order false 8 ∷ order true 8 ∷ []
+    ≡ (pairFrom 6 ∷ pairFrom 0 ∷ pairFrom 2 ∷ pairFrom 4 ∷ [])
+    ∷ (pairFrom 6 ∷ wordFrom false 0 ∷ wordFrom false 1 ∷ wordFrom false 2 ∷ wordFrom false 3 ∷ pairFrom 4 ∷ []) ∷ []
 unfolding order wordsFrom
 orders = refl
 

@@ -1,28 +1,95 @@
--- The cache's laws: a place that is set, what a search tells, and which places are held afterwards. Assumes nothing.
-use Prim.Native.Nat.{ℕ, _≤_, _<_}
-use mathlib.Core.Path.{_≡_, refl}
-use mathlib.Core.Logic.{⊎-elim}
-use mathlib.Core.Bool.{true, false, not, false≢true}
-use mathlib.Core.List.{List}
+-- The cache's laws: a place as the code reads it, a place that is set, what a search tells, and which places are held afterwards.
+-- Assumes nothing.
+use Prim.Native.Nat.{ℕ, suc, _+_, _≤_, _<_}
+use mathlib.Core.Path.{_≡_, refl, sym, ap, ap₂, subst, _∙_}
+use mathlib.Core.Logic.{⊎-elim, inl, inr}
+use mathlib.Core.Bool.{Bool, true, false, cond, not, false≢true}
+use mathlib.Core.List.{List, _++_}
 use native.Mathlib.Omega.{arith}
+use native.Mathlib.Numerals.{add-one}
 use lib.Dec.{eqb, ltb}
-use lib.ListN.{length, getD, set}
-use lib.Seq.{set-out, getD-set-same, getD-set-other}
+use lib.ListN.{length, getD, set, drop, replicate, length-replicate, replicate-append-replicate}
+use lib.Seq.{set-out, set-at, drop-cons, drop-set-lt, append-snoc, getD-set-same, getD-set-other}
 use borrow.Author.Tests.{lt-ltb, le-ltb, ltb-true, ltb-false, eqb-true, eqb-false}
-use Rattle.laws.specs.Tests.{decided}
+use Rattle.laws.specs.Tests.{decided, lt-or-le}
 use Rattle.laws.specs.Below.{firstFrom, first-tells, first-least}
+use Rattle.context.specs.Context.{kindsAt, tagsAt}
+use Rattle.context.specs.Laws.{part-at, store-in, store-apart}
 use Rattle.cache.specs.declared.Sought.{Sought}
 use Rattle.cache.specs.declared.Sought.the-variants.{Held}
-use Rattle.cache.specs.Cache.{Cache, cacheOf, places, isAt, lowestPlace, hasPlace, placed, freed, empty}
+use Rattle.cache.specs.declared.Place.the-variants.{Empty as EmptyPlace, Held as HeldPlace}
+use Rattle.cache.specs.Cache.{Cache, cacheOf, places, emptyAt, isAt, lowestPlace, hasPlace, placeAt, cacheWords, placed, freed, empty, emptied}
 
-pub placed-in : (c : Cache) (k kind tag : ℕ) → k < places → cacheOf (set (c .kinds) k kind) (set (c .tags) k tag) ≡ placed k kind tag c
-unfolding placed
-placed-in c k kind tag l = simp (lt-ltb _ _ l)
+-- ---- a place, at the words that were read
 
--- there is no place past the last
-pub placed-past : (c : Cache) (k kind tag : ℕ) → places ≤ k → c ≡ placed k kind tag c
-unfolding placed
-placed-past c k kind tag l = simp (le-ltb _ _ l)
+module _ (context : List ℕ) (k : ℕ) (l : k < places) where
+  -- it is empty
+  pub empty-read : eqb (getD context (kindsAt + k) 0) 0 ≡ emptyAt (cacheOf context) k
+  unfolding cacheOf
+  empty-read = ap (λ (kind : ℕ). eqb kind 0) (sym (part-at kindsAt places context k l))
+
+  -- its tag
+  pub tag-read : getD context (tagsAt + k) 0 ≡ getD (cacheOf context .tags) k 0
+  unfolding cacheOf
+  tag-read = sym (part-at tagsAt places context k l)
+
+  pub place-read : (held : Bool) → held ≡ not (emptyAt (cacheOf context) k)
+      → cond held (HeldPlace (getD context (tagsAt + k) 0)) EmptyPlace ≡ placeAt (cacheOf context) k
+  place-read held e = rw (e, lt-ltb _ _ l, tag-read)
+
+pub past-read : (c : Cache) (k : ℕ) → places ≤ k → EmptyPlace ≡ placeAt c k
+past-read c k l = rw (le-ltb _ _ l)
+
+-- ---- a place that is set
+
+module _ (context : List ℕ) (k kind tag : ℕ) where
+  pub placed-in : k < places → set (set context (kindsAt + k) kind) (tagsAt + k) tag ≡ placed k kind tag context
+  unfolding placed
+  placed-in l = simp (lt-ltb _ _ l)
+
+  -- there is no place past the last
+  pub placed-past : places ≤ k → context ≡ placed k kind tag context
+  unfolding placed
+  placed-past l = simp (le-ltb _ _ l)
+
+  -- the kind and the tag are those of place k, and all others stay
+  pub placed-cache : k < places
+      → cacheOf (placed k kind tag context) ≡ record { kinds = set (cacheOf context .kinds) k kind; tags = set (cacheOf context .tags) k tag }
+  unfolding cacheOf
+  placed-cache l =
+      rw (← placed-in l)
+      (ap₂ (λ (kinds tags : List ℕ). record { kinds = kinds; tags = tags })
+      (store-apart kindsAt places (set context (kindsAt + k) kind) (tagsAt + k) tag (inr (omega arith)) ∙ store-in kindsAt places context k kind l)
+      (store-in tagsAt places (set context (kindsAt + k) kind) k tag l
+      ∙ ap (λ (tags : List ℕ). set tags k tag) (store-apart tagsAt places context (kindsAt + k) kind (inl (omega arith)))))
+
+  -- and the words behind the cache stay
+  pub placed-behind : drop cacheWords (placed k kind tag context) ≡ drop cacheWords context
+  placed-behind =
+      ⊎-elim
+      (λ (l : k < places).
+      rw (← placed-in l)
+      (drop-set-lt cacheWords (set context (kindsAt + k) kind) (tagsAt + k) tag (omega arith)
+      ∙ drop-set-lt cacheWords context (kindsAt + k) kind (omega arith)))
+      (λ (o : places ≤ k). ap (drop cacheWords) (sym (placed-past o)))
+      (lt-or-le k places)
+
+-- every place is emptied, whatever the words were
+pub emptied-cache : (context : List ℕ) → cacheOf (emptied context) ≡ empty
+unfolding emptied cacheOf
+emptied-cache context = refl
+
+-- and the words behind the cache stay
+pub emptied-behind : (context : List ℕ) → drop cacheWords (emptied context) ≡ drop cacheWords context
+unfolding emptied
+emptied-behind context = refl
+
+-- one word after the other is made 0
+pub zeros-next : (k : ℕ) (context before : List ℕ) → k < length before → context ≡ replicate k 0 ++ drop k before → set context k 0 ≡ replicate (k + 1) 0 ++ drop (k + 1) before
+zeros-next k context before l e =
+    rw (e, drop-cons before k 0, set-at (replicate k 0) (getD before k 0) (drop (suc k) before) 0 k (length-replicate k 0))
+    (sym (append-snoc (replicate k 0) 0 (drop (suc k) before))
+    ∙ ap₂ (λ (zeros rest : List ℕ). zeros ++ rest) (replicate-append-replicate k 1 0) (ap (λ (n : ℕ). drop n before) (sym (add-one k))))
 
 -- ---- a place of those sought
 
@@ -37,10 +104,10 @@ module _ (c : Cache) (sought : Sought) where
 
 -- ---- held places
 
--- an empty cache has none
-pub empty-held : hasPlace empty Held ≡ false
-unfolding isAt firstFrom
-empty-held = refl
+-- an empty cache has none, whatever the context was
+pub emptied-held : (context : List ℕ) → hasPlace (cacheOf (emptied context)) Held ≡ false
+unfolding emptied cacheOf isAt firstFrom
+emptied-held context = refl
 
 -- a freed place is held no more, and the others stay
 cleared-kind : (kinds : List ℕ) (k j : ℕ) → not (eqb (getD (set kinds k 0) j 0) 0) ≡ true → not (eqb (getD kinds j 0) 0) ≡ true
@@ -55,13 +122,13 @@ cleared-kind kinds k j h =
     (λ (e : eqb j k ≡ false). rw (getD-set-other kinds k j 0 0 (eqb-false j k e)) at h)
     (decided (eqb j k))
 
-freed-at : (c : Cache) (k j : ℕ) → isAt (freed k c) Held j ≡ true → isAt c Held j ≡ true
-unfolding isAt placed
-freed-at c k j h =
+freed-at : (context : List ℕ) (k j : ℕ) → isAt (cacheOf (freed k context)) Held j ≡ true → isAt (cacheOf context) Held j ≡ true
+unfolding isAt
+freed-at context k j h =
     ⊎-elim
-    (λ (l : ltb k places ≡ true). cleared-kind (c .kinds) k j (rw l at h))
-    (λ (o : ltb k places ≡ false). rw o at h)
-    (decided (ltb k places))
+    (λ (l : k < places). cleared-kind (cacheOf context .kinds) k j (subst (λ (c : Cache). isAt c Held j ≡ true) (placed-cache context k 0 0 l) h))
+    (λ (o : places ≤ k). subst (λ (c : List ℕ). isAt (cacheOf c) Held j ≡ true) (sym (placed-past context k 0 0 o)) h)
+    (lt-or-le k places)
 
-pub freed-held : (c : Cache) (k : ℕ) → hasPlace (freed k c) Held ≡ true → hasPlace c Held ≡ true
-freed-held c k h = let t = has-tells (freed k c) Held h in has-at c Held _ (t .0) (freed-at c k _ (t .1))
+pub freed-held : (context : List ℕ) (k : ℕ) → hasPlace (cacheOf (freed k context)) Held ≡ true → hasPlace (cacheOf context) Held ≡ true
+freed-held context k h = let t = has-tells (cacheOf (freed k context)) Held h in has-at (cacheOf context) Held _ (t .0) (freed-at context k _ (t .1))

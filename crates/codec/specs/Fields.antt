@@ -2,24 +2,35 @@
 -- requests are read and responses written. Assumes nothing.
 use Prim.Native.Nat.{ℕ, _+_, _*_, _^_}
 use mathlib.Core.Bool.{Bool, true, false, cond}
-use mathlib.Core.List.{List, [], _∷_, _++_}
+use mathlib.Core.List.{List, [], _∷_, _++_, map}
 use lib.Dec.{eqb}
-use lib.ListN.{take, drop}
+use lib.ListN.{length, take, drop}
+use Rattle.laws.specs.Tests.{holds}
 use Rattle.endian.specs.Endian.{u32At, bytes4}
-use Rattle.chksum.specs.Chksum.{responseSum}
+use Rattle.chksum.specs.Chksum.{summed}
+use Rattle.codec.specs.declared.Numbers.{Numbers}
 use Rattle.codec.specs.declared.Command.{Command}
 use Rattle.codec.specs.declared.Command.the-variants.{Clkc, Klod, Kunl, Fers, Fsta, Unknown}
 
 -- ---- the column "code"
 
+-- a command's code; no code names an unknown one
+abbrev pub codeOf : Command → ℕ
+codeOf Clkc = 0x434C_4B43
+codeOf Klod = 0x4B4C_4F44
+codeOf Kunl = 0x4B55_4E4C
+codeOf Fers = 0x4645_5253
+codeOf Fsta = 0x4653_5441
+codeOf Unknown = 0
+
 -- "The code names the command"
 abbrev pub commandOf : (code : ℕ) → Command
 commandOf code =
-    cond (eqb code 0x434C_4B43) Clkc
-    (cond (eqb code 0x4B4C_4F44) Klod
-    (cond (eqb code 0x4B55_4E4C) Kunl
-    (cond (eqb code 0x4645_5253) Fers
-    (cond (eqb code 0x4653_5441) Fsta
+    cond (eqb code (codeOf Clkc)) Clkc
+    (cond (eqb code (codeOf Klod)) Klod
+    (cond (eqb code (codeOf Kunl)) Kunl
+    (cond (eqb code (codeOf Fers)) Fers
+    (cond (eqb code (codeOf Fsta)) Fsta
     Unknown))))
 
 -- the codes that 3 does not refuse
@@ -48,48 +59,40 @@ pub data Field : Type 0 where
   First-short : Field
   Active-slot : Field
   Hek-available : Field
-
--- a field's number, to tell it from others
-abbrev pub number : Field → ℕ
-number Chksum = 0
-number Reserved = 1
-number Fips-status = 2
-number Cmd-timeout = 3
-number Tag-low = 4
-number Tag-high = 5
-number Mek = 6
-number Partition = 7
-number Place = 8
-number Short-pairs = 9
-number First-short = 10
-number Active-slot = 11
-number Hek-available = 12
+  deriving Discrete as field-discrete
 
 -- one field
 abbrev pub same : Field → Field → Bool
-same f g = eqb (number f) (number g)
+same f g = holds (field-discrete f g)
 
 -- "Little-endian u32 fields"; "64 MEK bytes"
 abbrev pub width : Field → ℕ
-width field = cond (same field Mek) 64 4
+width field = cond (same Mek field) 64 4
 
--- the column "request after reserved": "Every request begins chksum, reserved"
+-- the column "request after reserved"
+abbrev pub asked : Command → List Field
+asked Clkc = Cmd-timeout ∷ []
+asked Klod = Cmd-timeout ∷ Tag-low ∷ Tag-high ∷ Mek ∷ []
+asked Kunl = Cmd-timeout ∷ Tag-low ∷ Tag-high ∷ []
+asked Fers = Partition ∷ []
+asked Fsta = []
+asked Unknown = []
+
+-- the column "response after reserved", by what the response is to hold
+abbrev pub answered : Command → Numbers → List Field
+answered Clkc numbers = []
+answered Klod numbers = Place ∷ []
+answered Kunl numbers = []
+answered Fers numbers = Short-pairs ∷ First-short ∷ []
+answered Fsta numbers = Active-slot ∷ Hek-available ∷ []
+answered Unknown numbers = []
+
+-- "Every request begins chksum, reserved; every response chksum, fips_status (0), reserved (0)"
 abbrev pub requestFields : Command → List Field
-requestFields Clkc = Chksum ∷ Reserved ∷ Cmd-timeout ∷ []
-requestFields Klod = Chksum ∷ Reserved ∷ Cmd-timeout ∷ Tag-low ∷ Tag-high ∷ Mek ∷ []
-requestFields Kunl = Chksum ∷ Reserved ∷ Cmd-timeout ∷ Tag-low ∷ Tag-high ∷ []
-requestFields Fers = Chksum ∷ Reserved ∷ Partition ∷ []
-requestFields Fsta = Chksum ∷ Reserved ∷ []
-requestFields Unknown = []
+requestFields command = Chksum ∷ Reserved ∷ asked command
 
--- the column "response after reserved": "every response chksum, fips_status (0), reserved (0)"
-abbrev pub responseFields : Command → List Field
-responseFields Clkc = Chksum ∷ Fips-status ∷ Reserved ∷ []
-responseFields Klod = Chksum ∷ Fips-status ∷ Reserved ∷ Place ∷ []
-responseFields Kunl = Chksum ∷ Fips-status ∷ Reserved ∷ []
-responseFields Fers = Chksum ∷ Fips-status ∷ Reserved ∷ Short-pairs ∷ First-short ∷ []
-responseFields Fsta = Chksum ∷ Fips-status ∷ Reserved ∷ Active-slot ∷ Hek-available ∷ []
-responseFields Unknown = []
+abbrev pub responseFields : Command → Numbers → List Field
+responseFields command numbers = Chksum ∷ Fips-status ∷ Reserved ∷ answered command numbers
 
 -- ---- what follows from a field list: its length, its fields' places, how it is read, how it is written
 
@@ -120,18 +123,39 @@ abbrev pub mekAt : List Field → (message : List ℕ) → List ℕ
 mekAt fields message = bytesAt fields Mek message
 
 -- a message: its fields' bytes, one after the other
-abbrev pub message : (bytes : Field → List ℕ) → List Field → List ℕ
-message bytes [] = []
-message bytes (field ∷ fields) = bytes field ++ message bytes fields
+abbrev pub joined : (parts : List (List ℕ)) → List ℕ
+joined [] = []
+joined (part ∷ parts) = part ++ joined parts
 
--- a u32 field's bytes, by what it holds
-abbrev pub u32Bytes : (value : Field → ℕ) → Field → List ℕ
-u32Bytes value field = bytes4 (value field)
+-- u32 fields that hold these numbers
+abbrev pub written : (numbers : List ℕ) → List ℕ
+written numbers = joined (map bytes4 numbers)
 
--- a response's fields hold these values, and its chksum is the sum of what follows it
-abbrev pub responseBytes : (value : Field → ℕ) → List Field → Field → List ℕ
-responseBytes value fields field = cond (same field Chksum) (bytes4 (responseSum (message (u32Bytes value) (drop 1 fields)))) (u32Bytes value field)
+-- the numbers of a response, as many as its list has fields after reserved, and behind them zeros
+abbrev pub twoNumbers : (first second : ℕ) → Numbers
+twoNumbers first second = record { first = first; second = second }
 
--- a response's bytes
-abbrev pub responseOf : (value : Field → ℕ) → List Field → List ℕ
-responseOf value fields = message (responseBytes value fields) fields
+abbrev pub oneNumber : (first : ℕ) → Numbers
+oneNumber first = twoNumbers first 0
+
+abbrev pub noNumbers : Numbers
+noNumbers = oneNumber 0
+
+abbrev pub numbersIn : Numbers → List ℕ
+numbersIn numbers = numbers .first ∷ numbers .second ∷ []
+
+-- what the fields of a response after chksum hold, in the list's order: "fips_status (0), reserved (0)", and the command's own
+abbrev pub heldBy : Command → Numbers → List ℕ
+heldBy command numbers = 0 ∷ 0 ∷ take (length (answered command numbers)) (numbersIn numbers)
+
+-- a response: chksum, the sum of what follows it, and each field's number
+abbrev pub responseOf : Command → Numbers → List ℕ
+responseOf command numbers = summed (written (heldBy command numbers))
+
+-- "Response bytes past the response keep their values"
+abbrev pub responseIn : Command → Numbers → (buffer : List ℕ) → List ℕ
+responseIn command numbers buffer = responseOf command numbers ++ drop (lengthOf (responseFields command numbers)) buffer
+
+-- the least response buffer, in which every response has room
+abbrev pub leastRoom : ℕ
+leastRoom = 20

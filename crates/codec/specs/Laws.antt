@@ -1,66 +1,39 @@
--- The laws of messages: a request's refusal by the first test that applies, and demand 2's "by the same field lists": what is
--- written by a list reads back by it. Assumes nothing.
-use Prim.Native.Nat.{ℕ, _≤_}
+-- The laws of messages: a request's refusal by the place of the first test that applies, and demand 2's "by the same field lists":
+-- what is written by a list reads back by it. Assumes nothing.
+use Prim.Native.Nat.{ℕ, zero, suc, _+_, _*_, _≤_, _<_}
 use mathlib.Core.Path.{_≡_, refl, sym, ap, _∙_}
 use mathlib.Core.Logic.{⊎-elim}
 use mathlib.Core.Bool.{Bool, true, false, cond, _&&_, false≢true}
-use mathlib.Core.List.{List, [], _∷_, _++_, append-assoc}
+use mathlib.Core.List.{List, [], _∷_, _++_, append-assoc, map}
 use native.Mathlib.Omega.{arith}
+use native.Mathlib.Numerals.{add-one}
+use native.Mathlib.Nat.{not-suc-le-zero, le-of-suc-le-suc}
 use lib.Dec.{eqb}
 use lib.ListN.{length, getD, take, drop, length-take}
-use lib.Seq.{take-at, drop-append-add}
-use borrow.Author.Tests.{eq-eqb, ne-eqb, eqb-true}
-use Rattle.laws.specs.Tests.{decided, and}
-use Rattle.laws.specs.Refusals.{numberOf}
-use Rattle.endian.specs.Endian.{u32At, u32-at}
-use Rattle.chksum.specs.Chksum.{requestSum}
+use lib.Seq.{take-at, take-suc, drop-append-add}
+use borrow.Author.Tests.{eqb-true}
+use Rattle.laws.specs.Tests.{decided, not-yes, and, holds-yes}
+use Rattle.laws.specs.Refusals.{numberOf, testAt, refusalAt, Past, refused-at, past-all}
+use Rattle.laws.specs.Put.{Put}
+use Rattle.endian.specs.Endian.{u32-at, bytes4}
+use Rattle.chksum.specs.Chksum.{closed, responseSum}
+use Rattle.chksum.specs.Laws.{closed-is}
+use Rattle.codec.specs.declared.Numbers.{Numbers}
 use Rattle.codec.specs.declared.Command.{Command}
 use Rattle.codec.specs.declared.Command.the-variants.{Clkc, Klod, Kunl, Fers, Fsta, Unknown}
-use Rattle.codec.specs.Fields.{known, Field, Chksum, Reserved, Fips-status, Cmd-timeout, Tag-low, Tag-high, Mek, Partition, Place, Short-pairs, First-short, Active-slot, Hek-available, number, same, width, requestFields, responseFields, lengthOf, placeOf, numberAt, bytesAt, mekAt, message, u32Bytes, responseBytes, responseOf}
+use Rattle.codec.specs.Fields.{Field, Mek, field-discrete, same, width, answered, requestFields, responseFields, lengthOf, placeOf}
+use Rattle.codec.specs.Fields.{numberAt, bytesAt, mekAt, joined, written, numbersIn, heldBy, responseOf, responseIn, leastRoom}
 use Rattle.codec.specs.Request.{requestTests}
 
--- ---- a request's number, by the first test that applies
-
--- "Every request begins chksum, reserved": they stand at 0 and 4
-pub chksum-place : (command : Command) → placeOf Chksum (requestFields command) ≡ 0
-chksum-place Clkc = refl
-chksum-place Klod = refl
-chksum-place Kunl = refl
-chksum-place Fers = refl
-chksum-place Fsta = refl
-chksum-place Unknown = refl
-
-pub reserved-place : (command : Command) → known command ≡ true → placeOf Reserved (requestFields command) ≡ 4
-reserved-place Clkc k = refl
-reserved-place Klod k = refl
-reserved-place Kunl k = refl
-reserved-place Fers k = refl
-reserved-place Fsta k = refl
-reserved-place Unknown k = absurd (false≢true k)
+-- ---- which of a request's tests gives the number, by the test's place; 0 where none does
 
 module _ (command : Command) (code : ℕ) (request : List ℕ) where
-  pub gives-3 : known command ≡ false → 3 ≡ numberOf (requestTests command code request)
-  unfolding requestTests
-  gives-3 k = simp k
+  pub request-at : (k : ℕ) → Past k (requestTests command code request) → testAt (requestTests command code request) k ≡ true
+      → refusalAt (requestTests command code request) k ≡ numberOf (requestTests command code request)
+  request-at k = refused-at (λ n. n) 0 k (requestTests command code request)
 
-  module _ (k : known command ≡ true) where
-    pub gives-4 : (length request ≡ lengthOf (requestFields command) → ⊥) → 4 ≡ numberOf (requestTests command code request)
-    unfolding requestTests
-    gives-4 l = simp (k, ne-eqb _ _ l)
-
-    module _ (l : length request ≡ lengthOf (requestFields command)) where
-      pub gives-5 : (u32At request 0 ≡ requestSum code request → ⊥) → 5 ≡ numberOf (requestTests command code request)
-      unfolding requestTests
-      gives-5 s = rw (chksum-place command) (simp (k, eq-eqb _ _ l, ne-eqb _ _ s))
-
-      module _ (s : u32At request 0 ≡ requestSum code request) where
-        pub gives-6 : (u32At request 4 ≡ 0 → ⊥) → 6 ≡ numberOf (requestTests command code request)
-        unfolding requestTests
-        gives-6 z = rw (chksum-place command, reserved-place command k) (simp (k, eq-eqb _ _ l, eq-eqb _ _ s, ne-eqb _ _ z))
-
-        pub gives-0 : u32At request 4 ≡ 0 → 0 ≡ numberOf (requestTests command code request)
-        unfolding requestTests
-        gives-0 z = rw (chksum-place command, reserved-place command k) (simp (k, eq-eqb _ _ l, eq-eqb _ _ s, eq-eqb _ _ z))
+  pub request-past : Past (length (requestTests command code request)) (requestTests command code request) → 0 ≡ numberOf (requestTests command code request)
+  request-past = past-all (λ n. n) 0 (requestTests command code request)
 
 -- ---- "Requests are read and responses written by the same field lists": what was written by a list reads back by it
 
@@ -69,88 +42,187 @@ abbrev pub among : Field → List Field → Bool
 among field [] = false
 among field (f ∷ fields) = cond (same field f) true (among field fields)
 
--- two fields of one number are one
-all-fields : List Field
-all-fields = Chksum ∷ Reserved ∷ Fips-status ∷ Cmd-timeout ∷ Tag-low ∷ Tag-high ∷ Mek ∷ Partition ∷ Place ∷ Short-pairs ∷ First-short ∷ Active-slot ∷ Hek-available ∷ []
-
-numbered : (field : Field) → getD all-fields (number field) Chksum ≡ field
-unfolding all-fields
-numbered Chksum = refl
-numbered Reserved = refl
-numbered Fips-status = refl
-numbered Cmd-timeout = refl
-numbered Tag-low = refl
-numbered Tag-high = refl
-numbered Mek = refl
-numbered Partition = refl
-numbered Place = refl
-numbered Short-pairs = refl
-numbered First-short = refl
-numbered Active-slot = refl
-numbered Hek-available = refl
+-- and its place in it
+abbrev pub indexOf : Field → List Field → ℕ
+indexOf field [] = 0
+indexOf field (f ∷ fields) = cond (same field f) 0 (suc (indexOf field fields))
 
 same-is : (f g : Field) → same f g ≡ true → f ≡ g
-same-is f g e = sym (numbered f) ∙ ap (λ (n : ℕ). getD all-fields n Chksum) (eqb-true _ _ e) ∙ numbered g
-
--- a field other than the MEK is a u32
-four : (field : Field) → same field Mek ≡ false → width field ≡ 4
-four field n = rw n
+same-is f g = holds-yes (field-discrete f g)
 
 -- each field has the bytes that its width says
-abbrev pub sized : (bytes : Field → List ℕ) → List Field → Bool
-sized bytes [] = true
-sized bytes (field ∷ fields) = eqb (length (bytes field)) (width field) && sized bytes fields
+abbrev pub sized : List Field → (parts : List (List ℕ)) → Bool
+sized [] parts = true
+sized (field ∷ fields) [] = false
+sized (field ∷ fields) (part ∷ parts) = eqb (length part) (width field) && sized fields parts
 
 -- so each field's bytes stand at its place, whatever follows the message
-pub stands : (bytes : Field → List ℕ) (fields : List Field) (field : Field) (rest : List ℕ) → sized bytes fields ≡ true → among field fields ≡ true → bytesAt fields field (message bytes fields ++ rest) ≡ bytes field
-stands bytes [] field rest s a = absurd (false≢true a)
-stands bytes (f ∷ fields) field rest s a =
-    let both = and (eqb (length (bytes f)) (width f)) (sized bytes fields) s in
-    let long : length (bytes f) ≡ width f = eqb-true _ _ (both .0) in
-    let apart = append-assoc (bytes f) (message bytes fields) rest in
+pub stands : (fields : List Field) (parts : List (List ℕ)) (field : Field) (rest : List ℕ) → sized fields parts ≡ true → among field fields ≡ true
+    → bytesAt fields field (joined parts ++ rest) ≡ getD parts (indexOf field fields) []
+stands [] parts field rest s a = absurd (false≢true a)
+stands (f ∷ fields) [] field rest s a = absurd (false≢true s)
+stands (f ∷ fields) (part ∷ parts) field rest s a =
+    let both = and (eqb (length part) (width f)) (sized fields parts) s in
+    let long : length part ≡ width f = eqb-true _ _ (both .0) in
+    let apart = append-assoc part (joined parts) rest in
     ⊎-elim
     (λ (y : same field f ≡ true).
-    let e : field ≡ f = same-is field f y in
-    rw (y, apart) (ap (λ (g : Field). take (width g) (bytes f ++ (message bytes fields ++ rest))) e ∙ take-at (bytes f) (message bytes fields ++ rest) (width f) long ∙ ap bytes (sym e)))
+    rw (y, apart) (ap (λ (g : Field). take (width g) (part ++ (joined parts ++ rest))) (same-is field f y) ∙ take-at part (joined parts ++ rest) (width f) long))
     (λ (n : same field f ≡ false).
-    rw (n, apart, ← long) (ap (take (width field)) (drop-append-add (bytes f) (message bytes fields ++ rest) (placeOf field fields)) ∙ stands bytes fields field rest (both .1) (rw n at a)))
+    rw (n, apart, ← long) (ap (take (width field)) (drop-append-add part (joined parts ++ rest) (placeOf field fields)) ∙ stands fields parts field rest (both .1) (rw n at a)))
     (decided (same field f))
 
--- a request's fields: numbers, and the MEK bytes
+-- a u32 field reads as the number whose bytes stand there
+number-stands : (fields : List Field) (parts : List (List ℕ)) (field : Field) (rest : List ℕ) (v : ℕ) → sized fields parts ≡ true → among field fields ≡ true
+    → same Mek field ≡ false → getD parts (indexOf field fields) [] ≡ bytes4 v → numberAt fields field (joined parts ++ rest) ≡ v
+number-stands fields parts field rest v s a n e =
+    let four : width field ≡ 4 = rw n in
+    u32-at _ _ _ (ap (λ (k : ℕ). take k (drop (placeOf field fields) (joined parts ++ rest))) (sym four) ∙ stands fields parts field rest s a ∙ e)
+
+-- ---- a request
+
+-- what is made of each field stands at its place
+made : (f : Field → List ℕ) (fields : List Field) (field : Field) → among field fields ≡ true → getD (map f fields) (indexOf field fields) [] ≡ f field
+made f [] field a = absurd (false≢true a)
+made f (g ∷ fields) field a =
+    ⊎-elim
+    (λ (y : same field g ≡ true). rw y (ap f (sym (same-is field g y))))
+    (λ (n : same field g ≡ false). rw n (made f fields field (rw n at a)))
+    (decided (same field g))
+
+-- its fields: numbers, and the MEK bytes
 abbrev pub requestBytes : (value : Field → ℕ) (mek : List ℕ) → Field → List ℕ
-requestBytes value mek field = cond (same field Mek) mek (u32Bytes value field)
+requestBytes value mek field = cond (same Mek field) mek (bytes4 (value field))
 
-request-sized : (value : Field → ℕ) (mek : List ℕ) → length mek ≡ 64 → (command : Command) → sized (requestBytes value mek) (requestFields command) ≡ true
-request-sized value mek l Clkc = refl
-request-sized value mek l Klod = rw l
-request-sized value mek l Kunl = refl
-request-sized value mek l Fers = refl
-request-sized value mek l Fsta = refl
-request-sized value mek l Unknown = refl
+abbrev pub requestOf : (value : Field → ℕ) (mek : List ℕ) → Command → List ℕ
+requestOf value mek command = joined (map (requestBytes value mek) (requestFields command))
 
-response-sized : (value : Field → ℕ) (command : Command) → sized (responseBytes value (responseFields command)) (responseFields command) ≡ true
-response-sized value Clkc = refl
-response-sized value Klod = refl
-response-sized value Kunl = refl
-response-sized value Fers = refl
-response-sized value Fsta = refl
-response-sized value Unknown = refl
+-- each has its bytes
+field-sized : (value : Field → ℕ) (mek : List ℕ) → length mek ≡ 64 → (is-mek : Bool) (v : ℕ) → eqb (length (cond is-mek mek (bytes4 v))) (cond is-mek 64 4) ≡ true
+field-sized value mek l true v = rw l
+field-sized value mek l false v = refl
 
--- a request that is written by its command's list reads back by it: its numbers and its MEK
+request-sized : (value : Field → ℕ) (mek : List ℕ) → length mek ≡ 64 → (fields : List Field) → sized fields (map (requestBytes value mek) fields) ≡ true
+request-sized value mek l [] = refl
+request-sized value mek l (f ∷ fields) = rw (field-sized value mek l (same Mek f) (value f)) (request-sized value mek l fields)
+
+-- one that is written by its command's list reads back by it: its numbers and its MEK
 module _ (value : Field → ℕ) (mek : List ℕ) (l : length mek ≡ 64) (command : Command) (rest : List ℕ) where
-  pub request-reads : (field : Field) → among field (requestFields command) ≡ true → same field Mek ≡ false → numberAt (requestFields command) field (message (requestBytes value mek) (requestFields command) ++ rest) ≡ value field
+  pub request-reads : (field : Field) → among field (requestFields command) ≡ true → same Mek field ≡ false
+      → numberAt (requestFields command) field (requestOf value mek command ++ rest) ≡ value field
   request-reads field a n =
-      u32-at _ _ _ (ap (λ (k : ℕ). take k (drop (placeOf field (requestFields command)) (message (requestBytes value mek) (requestFields command) ++ rest))) (sym (four field n)) ∙ stands (requestBytes value mek) (requestFields command) field rest (request-sized value mek l command) a ∙ rw n)
+      number-stands (requestFields command) (map (requestBytes value mek) (requestFields command)) field rest (value field) (request-sized value mek l (requestFields command)) a n
+      (made (requestBytes value mek) (requestFields command) field a ∙ rw n)
 
-  pub mek-reads : among Mek (requestFields command) ≡ true → mekAt (requestFields command) (message (requestBytes value mek) (requestFields command) ++ rest) ≡ mek
-  mek-reads a = stands (requestBytes value mek) (requestFields command) Mek rest (request-sized value mek l command) a
-
--- and so does a response
-pub response-reads : (value : Field → ℕ) (command : Command) (field : Field) (rest : List ℕ) → among field (responseFields command) ≡ true → same field Chksum ≡ false → same field Mek ≡ false → numberAt (responseFields command) field (responseOf value (responseFields command) ++ rest) ≡ value field
-response-reads value command field rest a c n =
-    u32-at _ _ _ (ap (λ (k : ℕ). take k (drop (placeOf field (responseFields command)) (responseOf value (responseFields command) ++ rest))) (sym (four field n)) ∙ stands (responseBytes value (responseFields command)) (responseFields command) field rest (response-sized value command) a ∙ rw c)
-
--- ---- the MEK
+  pub mek-reads : among Mek (requestFields command) ≡ true → mekAt (requestFields command) (requestOf value mek command ++ rest) ≡ mek
+  mek-reads a =
+      stands (requestFields command) (map (requestBytes value mek) (requestFields command)) Mek rest (request-sized value mek l (requestFields command)) a
+      ∙ made (requestBytes value mek) (requestFields command) Mek a
 
 pub mek-most : (fields : List Field) (message : List ℕ) → length (mekAt fields message) ≤ 64
 mek-most fields message = simp length-take (omega arith)
+
+-- ---- a response
+
+-- it has no MEK, and numbers enough
+no-mek : (command : Command) (numbers : Numbers) → among Mek (responseFields command numbers) ≡ false
+no-mek Clkc numbers = refl
+no-mek Klod numbers = refl
+no-mek Kunl numbers = refl
+no-mek Fers numbers = refl
+no-mek Fsta numbers = refl
+no-mek Unknown numbers = refl
+
+pub enough : (command : Command) (numbers : Numbers) → length (answered command numbers) ≤ length (numbersIn numbers)
+enough Clkc numbers = omega arith
+enough Klod numbers = omega arith
+enough Kunl numbers = omega arith
+enough Fers numbers = omega arith
+enough Fsta numbers = omega arith
+enough Unknown numbers = omega arith
+
+not-first : (a b : Bool) → cond a true b ≡ false → (a ≡ false) × (b ≡ false)
+not-first true b e = absurd (false≢true (sym e))
+not-first false b e = (refl, e)
+
+-- so that each field is a u32: the list's length, and the bytes of as many numbers
+u32-length : (fields : List Field) → among Mek fields ≡ false → lengthOf fields ≡ 4 * length fields
+u32-length [] n = refl
+u32-length (f ∷ fields) n =
+    let both = not-first (same Mek f) (among Mek fields) n in
+    rw (both .0) (omega (arith, u32-length fields (both .1)))
+
+u32-sized : (fields : List Field) (numbers : List ℕ) → among Mek fields ≡ false → length fields ≤ length numbers → sized fields (map bytes4 numbers) ≡ true
+u32-sized [] numbers n l = refl
+u32-sized (f ∷ fields) [] n l = absurd (omega arith)
+u32-sized (f ∷ fields) (v ∷ numbers) n l =
+    let both = not-first (same Mek f) (among Mek fields) n in
+    rw (both .0) (u32-sized fields numbers (both .1) (omega arith))
+
+-- the bytes of number k
+number-bytes : (numbers : List ℕ) (k : ℕ) → k < length numbers → getD (map bytes4 numbers) k [] ≡ bytes4 (getD numbers k 0)
+number-bytes [] k l = absurd (not-suc-le-zero l)
+number-bytes (v ∷ numbers) zero l = refl
+number-bytes (v ∷ numbers) (suc k) l = number-bytes numbers k (le-of-suc-le-suc l)
+
+among-index : (field : Field) (fields : List Field) → among field fields ≡ true → indexOf field fields < length fields
+among-index field [] a = absurd (false≢true a)
+among-index field (f ∷ fields) a =
+    ⊎-elim
+    (λ (y : same field f ≡ true). rw y (omega arith))
+    (λ (n : same field f ≡ false). rw n (omega (arith, among-index field fields (rw n at a))))
+    (decided (same field f))
+
+-- so every response has room in the least buffer
+pub fits-least : (command : Command) (numbers : Numbers) → 12 + 4 * length (answered command numbers) ≤ leastRoom
+fits-least command numbers = omega (arith, enough command numbers)
+
+-- what is read of a response: each field's number, and the sum as chksum
+module _ (command : Command) (numbers : Numbers) (rest : List ℕ) where
+  abbrev all : List ℕ
+  all = responseSum (written (heldBy command numbers)) ∷ heldBy command numbers
+
+  as-many : length (responseFields command numbers) ≤ length all
+  as-many = simp length-take (omega (arith, enough command numbers))
+
+  pub response-reads : (field : Field) → among field (responseFields command numbers) ≡ true
+      → numberAt (responseFields command numbers) field (responseOf command numbers ++ rest) ≡ getD all (indexOf field (responseFields command numbers)) 0
+  response-reads field a =
+      number-stands (responseFields command numbers) (map bytes4 all) field rest (getD all (indexOf field (responseFields command numbers)) 0)
+      (u32-sized (responseFields command numbers) all (no-mek command numbers) as-many) a
+      (not-yes _ (λ y. false≢true (sym (no-mek command numbers) ∙ ap (λ (g : Field). among g (responseFields command numbers)) (same-is Mek field y) ∙ a)))
+      (number-bytes all (indexOf field (responseFields command numbers)) (omega (arith, among-index field (responseFields command numbers) a, as-many)))
+
+-- ---- a response as it is written
+
+-- one number after the other
+written-append : (a b : List ℕ) → written (a ++ b) ≡ written a ++ written b
+written-append [] b = refl
+written-append (v ∷ a) b = ap (λ (l : List ℕ). bytes4 v ++ l) (written-append a b)
+
+pub written-next : (numbers : List ℕ) (k : ℕ) → k < length numbers → written (take k numbers) ++ bytes4 (getD numbers k 0) ≡ written (take (k + 1) numbers)
+written-next numbers k l = rw (add-one, take-suc numbers k 0) (sym (written-append (take k numbers) (getD numbers k 0 ∷ [])))
+
+written-long : (numbers : List ℕ) → length (written numbers) ≡ 4 * length numbers
+written-long [] = refl
+written-long (v ∷ numbers) = omega (arith, written-long numbers)
+
+pub written-most : (numbers : List ℕ) (k : ℕ) → length (written (take k numbers)) ≤ 4 * k
+written-most numbers k = omega (arith, written-long (take k numbers), length-take k numbers)
+
+pub response-long : (command : Command) (numbers : Numbers) → length (responseOf command numbers) ≡ lengthOf (responseFields command numbers)
+response-long command numbers =
+    omega (
+      arith,
+      enough command numbers,
+      written-long (heldBy command numbers),
+      length-take (length (answered command numbers)) (numbersIn numbers),
+      u32-length (responseFields command numbers) (no-mek command numbers),
+    )
+
+-- the fields after chksum, then chksum
+pub responded : (command : Command) (numbers : Numbers) {before middle after : List ℕ} {n : ℕ} → Put 4 (written (heldBy command numbers)) before middle n
+    → after ≡ closed n middle → (n ≡ lengthOf (responseFields command numbers)) × (after ≡ responseIn command numbers before)
+responded command numbers {before} {n = n} p q =
+    let long : n ≡ lengthOf (responseFields command numbers) = omega (arith, p .is-next, response-long command numbers) in
+    (long, closed-is p q ∙ ap (λ (k : ℕ). responseOf command numbers ++ drop k before) long)

@@ -1,15 +1,14 @@
 // The mailbox's messages: which command a code names, a request judged against its command's field
-// list (refusals 3 to 6), its fields read, and the fields that every response begins with. The field
-// lists are in `specs/Fields`, the refusals in `specs/Request`, the laws for callers in `specs/Laws`.
-// It rests on `chksum`, `endian` and `laws`.
+// list (refusals 3 to 6), its fields read, and a response written by its list. The field lists are in
+// `specs/Fields`, the refusals in `specs/Request`, the laws for callers in `specs/Laws`. It rests on
+// `chksum`, `endian` and `laws`.
 ghost use mathlib.Core.Path.{_≡_};
-ghost use mathlib.Core.List.{_++_};
-ghost use Prim.Native.Nat.{_≤_};
-ghost use lib.ListN.{length};
+ghost use mathlib.Core.List.{[], _∷_};
+ghost use Prim.Native.Nat.{_+_, _*_, _≤_, _<_};
+ghost use lib.ListN.{length, take, getD};
 ghost use Rattle.laws.specs.Put.{Put};
 ghost use Rattle.laws.specs.Refusals.{numberOf};
-ghost use Rattle.endian.specs.Endian.{bytes4};
-ghost use Rattle.codec.specs.Fields.{commandOf, known, Cmd-timeout, Partition, lengthOf, requestFields, numberAt, tagAt, mekAt};
+ghost use Rattle.codec.specs.Fields.{commandOf, known, Cmd-timeout, Partition, asked, answered, lengthOf, requestFields, responseFields, numberAt, tagAt, mekAt, written, twoNumbers, oneNumber, noNumbers, numbersIn, responseIn, leastRoom};
 ghost use Rattle.codec.specs.Request.{requestTests};
 
 // The commands that the mailbox knows, and any other code.
@@ -87,16 +86,16 @@ fn is_known(command: Command) -> bool
     }
 }
 
-// The bytes of a command's request.
-fn request_bytes(command: Command) -> usize
-    ensures { λ r. ⌜ r ≡ lengthOf (requestFields command) ⌝ }
+// The bytes of a command's request after reserved.
+fn asked_bytes(command: Command) -> usize
+    ensures { λ r. ⌜ (r ≡ lengthOf (asked command)) × (r ≤ 76) ⌝ }
 {
     match command {
-        Command::Clkc => 12,
-        Command::Klod => 84,
-        Command::Kunl => 20,
-        Command::Fers => 12,
-        Command::Fsta => 8,
+        Command::Clkc => 4,
+        Command::Klod => 76,
+        Command::Kunl => 12,
+        Command::Fers => 4,
+        Command::Fsta => 0,
         Command::Unknown => 0,
     }
 }
@@ -108,7 +107,7 @@ pub fn request_refusal(command: Command, code: u32, request: &[u8]) -> u32
     if !is_known(command) {
         return 3;
     }
-    if request.len() != request_bytes(command) {
+    if request.len() != CMD_TIMEOUT + asked_bytes(command) {
         return 4;
     }
     if endian::u32_at(request, CHKSUM) != chksum::request_sum(code, request) {
@@ -151,12 +150,96 @@ pub fn mek_of<'a>(request: &'a [u8]) -> &'a [u8]
     &request[MEK..MEK_END]
 }
 
+// The least response buffer, in which every response has room.
+pub const LEAST_ROOM: usize = 20;
+
+// The numbers of a response, as many as its list has fields after reserved, and behind them zeros.
+// The second is declared first: otherwise both lie as in an erasure's answer, and the compiler reads
+// the two stores that were just made by one load, for which the processor waits (DECISIONS 103).
+pub struct Numbers {
+    pub second: u32,
+    pub first: u32,
+}
+
+// Numbers of a response: two, one, none.
+pub fn two_numbers(first: u32, second: u32) -> Numbers
+    ensures { λ r. ⌜ r ≡ twoNumbers first second ⌝ }
+{
+    Numbers {
+        first: first,
+        second: second,
+    }
+}
+
+pub fn one_number(first: u32) -> Numbers
+    ensures { λ r. ⌜ r ≡ oneNumber first ⌝ }
+{
+    two_numbers(first, 0)
+}
+
+pub fn no_numbers() -> Numbers
+    ensures { λ r. ⌜ r ≡ noNumbers ⌝ }
+{
+    one_number(0)
+}
+
+// The fields of a command's response after reserved.
+fn number_count(command: Command, numbers: Numbers) -> usize
+    ensures { λ r. ⌜ r ≡ length (answered command numbers) ⌝ }
+{
+    match command {
+        Command::Clkc => 0,
+        Command::Klod => 1,
+        Command::Kunl => 0,
+        Command::Fers => 2,
+        Command::Fsta => 2,
+        Command::Unknown => 0,
+    }
+}
+
 // Writes the fields that stand after chksum in every response, fips_status and reserved, both 0, and
 // answers the place past them.
-pub fn begin_response(out: &mut [u8]) -> usize
+fn begin_response(out: &mut [u8]) -> usize
     requires { ⌜ 12 ≤ length (now out) ⌝ }
-    ensures { λ r. ⌜ Put 4 (bytes4 0 ++ bytes4 0) (now (out .entry)) (now (out .exit)) r ⌝ }
+    ensures { λ r. ⌜ Put 4 (written (0 ∷ 0 ∷ [])) (now (out .entry)) (now (out .exit)) r ⌝ }
 {
     let at = endian::put_u32(out, 4, 0);
     endian::put_u32(out, at, 0)
+}
+
+// Number `k`.
+fn number_at(numbers: Numbers, k: usize) -> u32
+    requires { ⌜ k < length (numbersIn numbers) ⌝ }
+    ensures { λ r. ⌜ r ≡ getD (numbersIn numbers) k 0 ⌝ }
+{
+    if k == 0 {
+        numbers.first
+    } else {
+        numbers.second
+    }
+}
+
+// Writes the first `count` numbers, and answers the place past them.
+fn put_numbers(out: &mut [u8], at: usize, numbers: Numbers, count: usize) -> usize
+    requires { ⌜ (count ≤ length (numbersIn numbers)) × (at + 4 * count ≤ length (now out)) ⌝ }
+    ensures { λ r. ⌜ Put at (written (take count (numbersIn numbers))) (now (out .entry)) (now (out .exit)) r ⌝ }
+{
+    let mut end = at;
+    let mut k: usize = 0;
+    while k < count {
+        end = endian::put_u32(out, end, number_at(numbers, k));
+        k += 1;
+    }
+    end
+}
+
+// Writes a command's response, and answers its length.
+pub fn write_response(out: &mut [u8], command: Command, numbers: Numbers) -> u32
+    requires { ⌜ leastRoom ≤ length (now out) ⌝ }
+    ensures { λ r. ⌜ (r ≡ lengthOf (responseFields command numbers)) × (now (out .exit) ≡ responseIn command numbers (now (out .entry))) ⌝ }
+{
+    let at = begin_response(out);
+    let end = put_numbers(out, at, numbers, number_count(command, numbers));
+    chksum::close(out, end);
+    end as u32
 }

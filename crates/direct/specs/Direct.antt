@@ -6,7 +6,8 @@ use mathlib.Core.List.{List, [], _∷_, _++_}
 use lib.Dec.{eqb, leb}
 use lib.ListN.{length, getD}
 use lib.Bits.{bitOr}
-use Rattle.laws.specs.Refusals.{lowest}
+use Rattle.laws.specs.Refusals.{firstOf}
+use Rattle.context.specs.State.{State, withCells, Outcome, outcome, refusing}
 use Rattle.map.specs.Map.{headerOf, entryOf, lifeCycle, zeroizable, secret}
 use Rattle.fuse.specs.Fuse.{pairOf, short, cellsIn, allOnes, burnWord}
 use Rattle.word.specs.declared.Role.{Role}
@@ -15,7 +16,6 @@ use Rattle.word.specs.declared.Lookup.{Lookup}
 use Rattle.word.specs.declared.Lookup.the-variants.{Word, Nothing}
 use Rattle.word.specs.Word.{wordAt}
 use Rattle.drive.specs.Drive.{Whole, driveTests, countedAt, slotInUse}
-use Rattle.cache.specs.Cache.{Cache}
 use Rattle.direct.specs.declared.Command.{Command}
 use Rattle.direct.specs.declared.Command.the-variants.{Read, Write, Zeroize}
 use Rattle.direct.specs.declared.Answer.{Answer}
@@ -55,24 +55,23 @@ clears (Write cell value) cells wide = not (eqb (bitOr (wordOf wide cell cells) 
 clears (Zeroize cell) cells wide = false
 
 -- 10, "slot change while keys are held"; READ changes nothing
-unfoldable pub changesSlot : Command → (image : List ℕ) (i : ℕ) → Cache → Bool
-changesSlot (Read cell) image i cache = false
-changesSlot (Write cell value) image i cache = slotInUse image i cache
-changesSlot (Zeroize cell) image i cache = slotInUse image i cache
+unfoldable pub changesSlot : Command → (image : List ℕ) (i : ℕ) (context : List ℕ) → Bool
+changesSlot (Read cell) image i context = false
+changesSlot (Write cell value) image i context = slotInUse image i context
+changesSlot (Zeroize cell) image i context = slotInUse image i context
 
 -- 7, "the cell starts no word"; then 8, 9 and 10
-abbrev pub wordTests : Lookup → Command → (image cells : List ℕ) → Cache → List (Bool × ℕ)
-wordTests Nothing command image cells cache = (true, 7) ∷ []
-wordTests (Word i role wide) command image cells cache =
-    (forbidden command image cells i role wide, 8)
-    ∷ (clears command cells wide, 9)
-    ∷ (changesSlot command image i cache, 10)
+abbrev pub wordTests : Lookup → Command → (image : List ℕ) → State → List (Bool × ℕ)
+wordTests Nothing command image s = (true, 7) ∷ []
+wordTests (Word i role wide) command image s =
+    (forbidden command image (s .cells) i role wide, 8)
+    ∷ (clears command (s .cells) wide, 9)
+    ∷ (changesSlot command image i (s .context), 10)
     ∷ []
 
--- all refusals of a command: 1 and 2 for the drive, 7 to 10 for the word
-abbrev pub directTests : (image cells marks : List ℕ) → Cache → Command → List (Bool × ℕ)
-directTests image cells marks cache command =
-    driveTests image cells marks ++ wordTests (wordAt image (cellOf command)) command image cells cache
+-- all refusals of a command, by what its cell starts: 1 and 2 for the drive, 7 to 10 for the word
+abbrev pub directTests : Lookup → Command → (image marks : List ℕ) → State → List (Bool × ℕ)
+directTests found command image marks s = driveTests image (s .cells) marks ++ wordTests found command image s
 
 -- ---- what a command that is not refused leaves
 
@@ -89,39 +88,29 @@ answerOf (Read cell) secret bound word = Shown word
 answerOf (Write cell value) secret bound word = cond secret Done (Shown word)
 answerOf (Zeroize cell) secret bound word = cond (secret && short bound word) Withheld (Shown word)
 
--- the answer, and the cells afterwards
-pub record Outcome : Type 0 where
-  pub answer : Answer
-  pub cells : List ℕ
-
--- what a command left
-abbrev pub left : Answer → (cells : List ℕ) → Outcome
-left answer cells = record { answer = answer; cells = cells }
-
 -- the word is shown as it now stands
-abbrev pub shownOf : Command → (image : List ℕ) (i : ℕ) (wide : Bool) (cells : List ℕ) → Outcome
-shownOf command image i wide cells = left (answerOf command (secret (entryOf image i)) (headerOf image .bound) (wordOf wide (cellOf command) cells)) cells
+abbrev pub shownOf : Command → (image : List ℕ) (i : ℕ) (wide : Bool) → State → Outcome Answer State
+shownOf command image i wide s = outcome (answerOf command (secret (entryOf image i)) (headerOf image .bound) (wordOf wide (cellOf command) (s .cells))) s
 
 -- a cell that starts no word is refused before
-unfoldable pub carriedOut : Lookup → Command → (image cells marks : List ℕ) → Outcome
-carriedOut Nothing command image cells marks = left (Refused 7) cells
-carriedOut (Word i role wide) command image cells marks = shownOf command image i wide (cellsAfter command wide marks cells)
+unfoldable pub carriedOut : Lookup → Command → (image marks : List ℕ) → State → Outcome Answer State
+carriedOut Nothing command image marks s = refusing Refused s 7
+carriedOut (Word i role wide) command image marks s = shownOf command image i wide (withCells (cellsAfter command wide marks (s .cells)) s)
 
--- a refusal leaves the cells as they were
-abbrev pub refusedOf : (cells : List ℕ) (number : ℕ) → Outcome
-refusedOf cells number = left (Refused number) cells
+-- a command, by what its cell starts
+abbrev pub directBy : Lookup → (image marks : List ℕ) → Command → State → Outcome Answer State
+directBy found image marks command s = firstOf (refusing Refused s) (directTests found command image marks s) (carriedOut found command image marks s)
 
 -- a direct command
-unfoldable pub directOf : (image cells marks : List ℕ) → Cache → Command → Outcome
-directOf image cells marks cache command =
-    lowest (refusedOf cells) (directTests image cells marks cache command) (carriedOut (wordAt image (cellOf command)) command image cells marks)
+unfoldable pub directOf : (image marks : List ℕ) → Command → State → Outcome Answer State
+directOf image marks command s = directBy (wordAt image (cellOf command)) image marks command s
 
 -- ---- below the entry point
 
 -- a command on the word of partition i that starts at its cell
-unfoldable pub onWord : (image cells marks : List ℕ) → Cache → Command → (i : ℕ) → Role → (wide : Bool) → Outcome
-onWord image cells marks cache command i role wide =
-    lowest (refusedOf cells) (wordTests (Word i role wide) command image cells cache) (carriedOut (Word i role wide) command image cells marks)
+unfoldable pub onWord : (image marks : List ℕ) → Command → (i : ℕ) → Role → (wide : Bool) → State → Outcome Answer State
+onWord image marks command i role wide s =
+    firstOf (refusing Refused s) (wordTests (Word i role wide) command image s) (carriedOut (Word i role wide) command image marks s)
 
 -- what it asks for: a drive that was judged, and a word that lies in it
 pub record Named (image cells marks : List ℕ) (command : Command) (i : ℕ) (wide : Bool) : Type 0 where

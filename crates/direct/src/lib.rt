@@ -1,8 +1,9 @@
 // Direct commands: READ, WRITE and ZEROIZE of one word. A command is judged, the lowest refusal
 // first, and then burns at most its word, by the burn that every other burn of the key block uses.
 // `run` is the entry point: it answers for any bytes and any lengths. The definitions are in
-// `specs/Direct`, the laws in `specs/Laws`. It rests on `drive`, `word`, `cache`, `fuse` and what
+// `specs/Direct`, the laws in `specs/Laws`. It rests on `drive`, `word`, `context`, `fuse` and what
 // lies below them.
+use context::Context;
 use drive::Check;
 use word::Lookup;
 use word::Role;
@@ -13,8 +14,8 @@ ghost use Rattle.laws.specs.Refusals.{numberOf};
 ghost use Rattle.map.specs.Map.{headerOf};
 ghost use Rattle.fuse.specs.Fuse.{cellsIn};
 ghost use Rattle.drive.specs.Drive.{Whole};
-ghost use Rattle.cache.specs.Cache.{cacheOf};
-ghost use Rattle.direct.specs.Direct.{cellOf, wordOf, isData, forbidden, clears, changesSlot, wordTests, cellsAfter, answerOf, left, Named, onWord, directOf};
+ghost use Rattle.context.specs.State.{state, outcome};
+ghost use Rattle.direct.specs.Direct.{cellOf, wordOf, isData, forbidden, clears, changesSlot, wordTests, cellsAfter, answerOf, Named, onWord, directOf};
 
 // A command and the word that it names, by its first cell in the whole array.
 pub enum Command {
@@ -104,13 +105,13 @@ fn would_clear(command: Command, cells: &[u32], wide: bool) -> bool
 }
 
 // Whether a command changes a slot while a key is held, refusal 10.
-fn changes_slot(command: Command, image: &[u8], i: u32, kinds: &[u8; 16], tags: &[u64; 16]) -> bool
-    ensures { λ r. ⌜ r ≡ changesSlot command (now (image .entry)) i (cacheOf (now (kinds .entry)) (now (tags .entry))) ⌝ }
+fn changes_slot(command: Command, image: &[u8], i: u32, context: &Context) -> bool
+    ensures { λ r. ⌜ r ≡ changesSlot command (now (image .entry)) i (now (context .entry)) ⌝ }
 {
     match command {
         Command::Read { cell: _ } => false,
-        Command::Write { cell: _, value: _ } => drive::is_slot_in_use(image, i, kinds, tags),
-        Command::Zeroize { cell: _ } => drive::is_slot_in_use(image, i, kinds, tags),
+        Command::Write { cell: _, value: _ } => drive::is_slot_in_use(image, i, context),
+        Command::Zeroize { cell: _ } => drive::is_slot_in_use(image, i, context),
     }
 }
 
@@ -119,14 +120,13 @@ fn word_refusal(
     command: Command,
     image: &[u8],
     cells: &[u32],
-    kinds: &[u8; 16],
-    tags: &[u64; 16],
+    context: &Context,
     i: u32,
     role: Role,
     wide: bool,
 ) -> u32
     requires { ⌜ Whole (now image) (now cells) × (i < headerOf (now image) .partitions) × (cellOf command + cellsIn wide ≤ length (now cells)) ⌝ }
-    ensures { λ r. ⌜ r ≡ numberOf (wordTests (Lookup.Word i role wide) command (now (image .entry)) (now (cells .entry)) (cacheOf (now (kinds .entry)) (now (tags .entry)))) ⌝ }
+    ensures { λ r. ⌜ r ≡ numberOf (wordTests (Lookup.Word i role wide) command (now (image .entry)) (state (now (cells .entry)) (now (context .entry)))) ⌝ }
 {
     if is_forbidden(command, image, cells, i, role, wide) {
         return 8;
@@ -134,7 +134,7 @@ fn word_refusal(
     if would_clear(command, cells, wide) {
         return 9;
     }
-    if changes_slot(command, image, i, kinds, tags) {
+    if changes_slot(command, image, i, context) {
         return 10;
     }
     0
@@ -187,16 +187,16 @@ fn on_word(
     image: &[u8],
     cells: &mut [u32],
     marks: &[u32],
-    kinds: &[u8; 16],
-    tags: &[u64; 16],
+    context: &mut Context,
     i: u32,
     role: Role,
     wide: bool,
 ) -> Answer
     requires { ⌜ Named (now image) (now cells) (now marks) command i wide ⌝ }
-    ensures { λ r. ⌜ left r (now (cells .exit)) ≡ onWord (now (image .entry)) (now (cells .entry)) (now (marks .entry)) (cacheOf (now (kinds .entry)) (now (tags .entry))) command i role wide ⌝ }
+    ensures { λ r. ⌜ outcome r (state (now (cells .exit)) (now (context .exit)))
+        ≡ onWord (now (image .entry)) (now (marks .entry)) command i role wide (state (now (cells .entry)) (now (context .entry))) ⌝ }
 {
-    let number = word_refusal(command, image, cells, kinds, tags, i, role, wide);
+    let number = word_refusal(command, image, cells, context, i, role, wide);
     if number != 0 {
         return Answer::Refused(number);
     }
@@ -212,11 +212,11 @@ pub fn run(
     image: &[u8],
     cells: &mut [u32],
     marks: &[u32],
-    kinds: &[u8; 16],
-    tags: &[u64; 16],
+    context: &mut Context,
     command: Command,
 ) -> Answer
-    ensures { λ r. ⌜ left r (now (cells .exit)) ≡ directOf (now (image .entry)) (now (cells .entry)) (now (marks .entry)) (cacheOf (now (kinds .entry)) (now (tags .entry))) command ⌝ }
+    ensures { λ r. ⌜ outcome r (state (now (cells .exit)) (now (context .exit)))
+        ≡ directOf (now (image .entry)) (now (marks .entry)) command (state (now (cells .entry)) (now (context .entry))) ⌝ }
 {
     match drive::check_drive(image, cells, marks) {
         Check::Refused(number) => Answer::Refused(number),
@@ -226,17 +226,7 @@ pub fn run(
                 partition,
                 role,
                 wide,
-            } => on_word(
-                command,
-                image,
-                cells,
-                marks,
-                kinds,
-                tags,
-                partition,
-                role,
-                wide,
-            ),
+            } => on_word(command, image, cells, marks, context, partition, role, wide),
         },
     }
 }

@@ -6,13 +6,13 @@ use mathlib.Core.List.{List, [], _∷_}
 use lib.ListN.{length, take, drop}
 use lib.Dec.{eqb, ltb}
 use Rattle.laws.specs.Below.{firstBelow}
-use Rattle.laws.specs.Refusals.{lowest}
+use Rattle.laws.specs.Refusals.{firstOf}
 use Rattle.map.specs.Map.{headerOf, entryOf, zeroizable, slot, mapGood}
 use Rattle.partition.specs.declared.State.{State}
 use Rattle.partition.specs.declared.State.the-variants.{Erased, Torn, Blank, Programmed}
 use Rattle.partition.specs.declared.Survey.{Survey}
 use Rattle.partition.specs.Partition.{counted, surveyOf}
-use Rattle.cache.specs.Cache.{Cache, hasPlace}
+use Rattle.cache.specs.Cache.{cacheOf, hasPlace}
 use Rattle.cache.specs.declared.Sought.the-variants.{Held}
 use Rattle.drive.specs.declared.Terms.{Terms}
 use Rattle.drive.specs.declared.Check.{Check}
@@ -37,9 +37,9 @@ driveTests image cells marks =
     ∷ (not (wholeArrays image cells marks), 2)
     ∷ []
 
--- the check: the lowest of the two that applies, else the header
+-- the check: the first of the two that applies, else the header
 unfoldable pub checkOf : (image cells marks : List ℕ) → Check
-checkOf image cells marks = lowest Refused (driveTests image cells marks) (Ready (headerOf image))
+checkOf image cells marks = firstOf Refused (driveTests image cells marks) (Ready (headerOf image))
 
 -- a map and cells that neither refusal concerns: what the functions below the entry points ask for
 pub record Whole (image cells : List ℕ) : Type 0 where
@@ -128,5 +128,5 @@ slotAnswerOf image cells marks = slotAnswerBy (checkOf image cells marks) image 
 -- ---- slots while a key is held
 
 -- 10, "slot change while keys are held": "WRITE, ZEROIZE and erasure on a slot are refused (10) while any place is held"
-abbrev pub slotInUse : (image : List ℕ) (i : ℕ) → Cache → Bool
-slotInUse image i cache = slot (entryOf image i) && hasPlace cache Held
+abbrev pub slotInUse : (image : List ℕ) (i : ℕ) (context : List ℕ) → Bool
+slotInUse image i context = slot (entryOf image i) && hasPlace (cacheOf context) Held

@@ -10,7 +10,7 @@ use lib.Dec.{eqb, ltb}
 use borrow.Author.Tests.{ltb-true, ltb-false, eqb-true, lt-ltb, le-ltb}
 use Rattle.laws.specs.Tests.{and, decided}
 use Rattle.laws.specs.Below.{First, first-tells, first-same, count-le}
-use Rattle.laws.specs.Refusals.{lowest}
+use Rattle.laws.specs.Refusals.{firstOf, testAt, refusalAt, Past, refused-at, past-all}
 use Rattle.map.specs.declared.Header.{Header}
 use Rattle.map.specs.declared.Entry.{Entry}
 use Rattle.map.specs.Map.{headerOf, entryOf, zeroizable, slot, mapGood}
@@ -19,28 +19,26 @@ use Rattle.partition.specs.declared.State.{State}
 use Rattle.partition.specs.declared.Survey.{Survey}
 use Rattle.partition.specs.Partition.{pairs, shortAt, shortPairs, counted, surveyOf}
 use Rattle.partition.specs.declared.State.the-variants.{Erased, Torn, Blank, Programmed}
-use Rattle.cache.specs.Cache.{Cache, hasPlace}
+use Rattle.cache.specs.Cache.{cacheOf, hasPlace}
 use Rattle.cache.specs.declared.Sought.the-variants.{Held}
 use Rattle.drive.specs.declared.Terms.{Terms}
 use Rattle.drive.specs.declared.Check.the-variants.{Ready, Refused}
 use Rattle.drive.specs.declared.ActiveSlot.{ActiveSlot}
 use Rattle.drive.specs.declared.ActiveSlot.the-variants.{Programmed as ProgrammedSlot, Absent}
-use Rattle.drive.specs.Drive.{Whole, wholeArrays, driveTests, checkOf, cellsOf, termsOf, surveyAt, countedAt, slotIn, slotAt, present, available, openSlot, activePlace, activeSlot, slotInUse}
+use Rattle.drive.specs.Drive.{Whole, wholeArrays, driveTests, checkOf, cellsOf, termsOf, surveyAt, countedAt, slotIn, slotAt, present, available}
+use Rattle.drive.specs.Drive.{openSlot, activePlace, activeSlot, slotInUse}
 
 -- ---- the check
 
-pub bad-map : (image cells marks : List ℕ) → mapGood image ≡ false → checkOf image cells marks ≡ Refused 1
-unfolding checkOf
-bad-map image cells marks g = simp g
-
-module _ (image cells marks : List ℕ) (g : mapGood image ≡ true) where
-  pub bad-arrays : wholeArrays image cells marks ≡ false → checkOf image cells marks ≡ Refused 2
+-- which of its tests gives the number, by the test's place, and that none does
+module _ (image cells marks : List ℕ) where
+  pub check-at : (k : ℕ) → Past k (driveTests image cells marks) → testAt (driveTests image cells marks) k ≡ true → Refused (refusalAt (driveTests image cells marks) k) ≡ checkOf image cells marks
   unfolding checkOf
-  bad-arrays w = simp (g, w)
+  check-at k = refused-at Refused (Ready (headerOf image)) k (driveTests image cells marks)
 
-  pub ready : wholeArrays image cells marks ≡ true → checkOf image cells marks ≡ Ready (headerOf image)
+  pub check-past : Past 2 (driveTests image cells marks) → {header : Header} → header ≡ headerOf image → Ready header ≡ checkOf image cells marks
   unfolding checkOf
-  ready w = simp (g, w)
+  check-past p e = ap Ready e ∙ past-all Refused (Ready (headerOf image)) (driveTests image cells marks) p
 
 -- the code's test of the lengths, at the header that was read
 pub arrays-are : (image cells marks : List ℕ) (header : Header) → header ≡ headerOf image → (eqb (length cells) (header .cells) && eqb (length marks) (header .cells)) ≡ wholeArrays image cells marks
@@ -67,19 +65,22 @@ judged image cells marks header e =
 
 -- a call's refusals begin with the drive's: what the check answers, the whole list answers
 module _ {A : Type 0} (refuse : ℕ → A) (rest : List (Bool × ℕ)) (accepted : A) where
-  refused-by : (good arrays : Bool) (header : Header) (n : ℕ) → Refused n ≡ cond (not good) (Refused 1) (cond (not arrays) (Refused 2) (Ready header)) → lowest refuse ((not good, 1) ∷ (not arrays, 2) ∷ rest) accepted ≡ refuse n
+  refused-by : (good arrays : Bool) (header : Header) (n : ℕ) → Refused n ≡ cond (not good) (Refused 1) (cond (not arrays) (Refused 2) (Ready header))
+      → firstOf refuse ((not good, 1) ∷ (not arrays, 2) ∷ rest) accepted ≡ refuse n
   refused-by true true header n e = absurd (let z : _≡_ {A = ℕ} 0 1 = cc in omega arith)
   refused-by true false header n e = let z : n ≡ 2 = cc in rw z
   refused-by false arrays header n e = let z : n ≡ 1 = cc in rw z
 
-  passed-by : (good arrays : Bool) (header h : Header) → Ready h ≡ cond (not good) (Refused 1) (cond (not arrays) (Refused 2) (Ready header)) → lowest refuse ((not good, 1) ∷ (not arrays, 2) ∷ rest) accepted ≡ lowest refuse rest accepted
+  passed-by : (good arrays : Bool) (header h : Header) → Ready h ≡ cond (not good) (Refused 1) (cond (not arrays) (Refused 2) (Ready header))
+      → firstOf refuse ((not good, 1) ∷ (not arrays, 2) ∷ rest) accepted ≡ firstOf refuse rest accepted
   passed-by good arrays header h e = let told = judged-by good arrays header h e in rw (told .0, told .1)
 
-  pub check-refused : (image cells marks : List ℕ) (n : ℕ) → Refused n ≡ checkOf image cells marks → lowest refuse (driveTests image cells marks ++ rest) accepted ≡ refuse n
+  pub check-refused : (image cells marks : List ℕ) (n : ℕ) → Refused n ≡ checkOf image cells marks → firstOf refuse (driveTests image cells marks ++ rest) accepted ≡ refuse n
   unfolding checkOf
   check-refused image cells marks n e = refused-by (mapGood image) (wholeArrays image cells marks) (headerOf image) n e
 
-  pub check-passed : (image cells marks : List ℕ) (header : Header) → Ready header ≡ checkOf image cells marks → lowest refuse (driveTests image cells marks ++ rest) accepted ≡ lowest refuse rest accepted
+  pub check-passed : (image cells marks : List ℕ) (header : Header) → Ready header ≡ checkOf image cells marks
+      → firstOf refuse (driveTests image cells marks ++ rest) accepted ≡ firstOf refuse rest accepted
   unfolding checkOf
   check-passed image cells marks header e = passed-by (mapGood image) (wholeArrays image cells marks) (headerOf image) header e
 
@@ -129,7 +130,8 @@ pub no-slot : (image cells : List ℕ) (i : ℕ) (x : Entry) → x ≡ entryOf i
 unfolding slotAt
 no-slot image cells i x e n = simp (rw e at n)
 
-pub slot-by : (image cells : List ℕ) (i : ℕ) (x : Entry) (survey : Survey) (state : State) → x ≡ entryOf image i → slot x ≡ true → survey ≡ surveyAt image cells i → survey .state ≡ state → slotAt image cells i ≡ slotIn state i
+pub slot-by : (image cells : List ℕ) (i : ℕ) (x : Entry) (survey : Survey) (state : State) → x ≡ entryOf image i → slot x ≡ true
+    → survey ≡ surveyAt image cells i → survey .state ≡ state → slotAt image cells i ≡ slotIn state i
 unfolding slotAt
 slot-by image cells i x survey state e y q s = simp (rw e at y) (rw (← q) (ap (λ (t : State). slotIn t i) s))
 
@@ -140,12 +142,15 @@ open-is image cells i found there e p = p ∙ ap present e
 
 -- ---- the active slot depends on the cells of slots alone
 
-module _ (image cells cells′ : List ℕ) (same : (j : ℕ) → j < headerOf image .partitions → slot (entryOf image j) ≡ true → cellsOf image cells′ j ≡ cellsOf image cells j) where
+module _ (image cells cells′ : List ℕ)
+    (same : (j : ℕ) → j < headerOf image .partitions → slot (entryOf image j) ≡ true → cellsOf image cells′ j ≡ cellsOf image cells j) where
   slot-same : (j : ℕ) → j < headerOf image .partitions → slotAt image cells′ j ≡ slotAt image cells j
   unfolding slotAt surveyAt
   slot-same j l =
       ⊎-elim
-      (λ (y : slot (entryOf image j) ≡ true). ap (λ (part : List ℕ). cond (slot (entryOf image j)) (slotIn (surveyOf (zeroizable (entryOf image j)) (headerOf image .bound) part .state) j) Absent) (same j l y))
+      (λ (y : slot (entryOf image j) ≡ true).
+      ap (λ (part : List ℕ). cond (slot (entryOf image j)) (slotIn (surveyOf (zeroizable (entryOf image j)) (headerOf image .bound) part .state) j) Absent)
+      (same j l y))
       (λ (n : slot (entryOf image j) ≡ false). simp n)
       (decided (slot (entryOf image j)))
 
@@ -203,5 +208,6 @@ available-tells image cells e =
 
 -- ---- a slot while a key is held, at the entry that was read
 
-pub in-use-is : (image : List ℕ) (i : ℕ) {x : Entry} → x ≡ entryOf image i → (cache : Cache) {is-slot held : Bool} → is-slot ≡ slot x → held ≡ hasPlace cache Held → (is-slot && held) ≡ slotInUse image i cache
-in-use-is image i e cache s h = rw (s, h, e)
+pub in-use-is : (image : List ℕ) (i : ℕ) {x : Entry} → x ≡ entryOf image i → (context : List ℕ) {is-slot held : Bool} → is-slot ≡ slot x
+    → held ≡ hasPlace (cacheOf context) Held → (is-slot && held) ≡ slotInUse image i context
+in-use-is image i e context s h = rw (s, h, e)

@@ -2,15 +2,15 @@
 // shares, a partition's state, the active slot with its HEK, and whether a slot may not change, since
 // a key is held. The public functions with three slices are entry points: they answer for any bytes
 // and any lengths. The definitions are in `specs/Drive`, the laws for callers in `specs/Laws`. It
-// rests on `map`, `partition` and `cache`, and below them on `endian` and `laws`.
+// rests on `map`, `partition` and `cache`, and below them on `context`, `endian` and `laws`.
 use cache::Sought;
+use context::Context;
 use map::Header;
 use partition::State;
 use partition::Survey;
 ghost use mathlib.Core.Path.{_≡_};
 ghost use Prim.Native.Nat.{_<_};
 ghost use Rattle.map.specs.Map.{headerOf};
-ghost use Rattle.cache.specs.Cache.{cacheOf};
 ghost use Rattle.drive.specs.Drive.{Whole, checkOf, cellsOf, termsOf, surveyAt, countedAt, surveyedOf, slotAt, present, slotNumber, available, activeSlot, slotAnswerOf, slotInUse};
 
 // Refusal 1 or 2, or the header of a good map whose arrays have its length.
@@ -205,8 +205,8 @@ pub fn active_slot(image: &[u8], cells: &[u32], marks: &[u32]) -> SlotAnswer
 }
 
 // Whether a partition is a slot while a key is held, refusal 10 of what would change it.
-pub fn is_slot_in_use(image: &[u8], i: u32, kinds: &[u8; 16], tags: &[u64; 16]) -> bool
-    ensures { λ r. ⌜ r ≡ slotInUse (now (image .entry)) i (cacheOf (now (kinds .entry)) (now (tags .entry))) ⌝ }
+pub fn is_slot_in_use(image: &[u8], i: u32, context: &Context) -> bool
+    ensures { λ r. ⌜ r ≡ slotInUse (now (image .entry)) i (now (context .entry)) ⌝ }
 {
-    map::is_slot(map::read_entry(image, i)) & cache::has_place(kinds, tags, Sought::Held)
+    map::is_slot(map::read_entry(image, i)) & cache::has_place(context, Sought::Held)
 }

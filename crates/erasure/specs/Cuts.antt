@@ -2,32 +2,40 @@
 -- each answer tells the burns that the order reaches. Assumes nothing.
 use Prim.Native.Nat.{ℕ, _+_, _≤_, _<_}
 use mathlib.Core.Path.{_≡_, refl, ap, subst, _∙_}
-use mathlib.Core.Bool.{true, false, cond}
+use mathlib.Core.Bool.{Bool, true, false, cond}
 use mathlib.Core.List.{List}
 use native.Mathlib.Omega.{arith}
 use lib.ListN.{length}
 use lib.Dec.{eqb}
 use borrow.Author.Tests.{not-false, leb-false, eqb-true, ne-eqb}
 use Rattle.laws.specs.Tests.{and}
-use Rattle.laws.specs.Refusals.{lowest-elim, lowest-both, Applies, not-applies, Given, lowest-tells}
+use Rattle.laws.specs.Refusals.{first-elim, first-both, Applies, not-applies, GivenFirst, given-first, GivenLowest, lowest-tells}
+use Rattle.context.specs.State.{State, Outcome, refusing, onCells}
 use Rattle.map.specs.Map.{headerOf, entryOf, software, mapGood}
 use Rattle.map.specs.Laws.{map-entry}
 use Rattle.burns.specs.declared.End.{End}
 use Rattle.burns.specs.declared.End.the-variants.{Whole, Stopped, Cut as CutEnd}
-use Rattle.burns.specs.Run.{Tally, order}
+use Rattle.burns.specs.Run.{Tally, Ran, order}
 use Rattle.burns.specs.Turns.{order-fewer}
 use Rattle.burns.specs.Safe.{run-late, run-early, run-burns, never-cut}
 use Rattle.drive.specs.Drive.{Whole as WholeDrive, wholeArrays, cellsOf}
-use Rattle.cache.specs.Cache.{Cache}
 use Rattle.erasure.specs.declared.Answer.{Answer}
 use Rattle.erasure.specs.declared.Answer.the-variants.{Ended, Cut, Refused}
-use Rattle.erasure.specs.Erasure.{eraseTests, inWhole, runOn, never, answerBy, Outcome, leftBy, refusedOf, eraseOf, erasureOf, isCut}
+use Rattle.erasure.specs.Erasure.{eraseTests, inWhole, runOn, never, answerBy, ranOf, unburned, eraseOf, erasureOf, isCut}
 use Rattle.erasure.specs.Laws.{part-long, part-small}
 
 -- "Checked in ascending order; the lowest that applies is given, and none is given otherwise"
-pub erase-lowest : (image cells marks : List ℕ) (cache : Cache) (i k mask : ℕ) → Given (refusedOf cells) (eraseTests image cells marks cache i) (leftBy image i (runOn image cells marks i k mask)) (eraseOf image cells marks cache i k mask)
-unfolding eraseOf
-erase-lowest image cells marks cache i k mask = lowest-tells (refusedOf cells) (leftBy image i (runOn image cells marks i k mask)) 1 (eraseTests image cells marks cache i) refl
+module _ (image marks : List ℕ) (i k mask : ℕ) (s : State) where
+  abbrev accepted : Outcome Answer State
+  accepted = onCells s (ranOf image i (runOn image (s .cells) marks i k mask))
+
+  pub erase-first : GivenFirst (refusing unburned s) (eraseTests image marks i s) accepted (eraseOf image marks i k mask s)
+  unfolding eraseOf
+  erase-first = given-first (refusing unburned s) accepted (eraseTests image marks i s)
+
+  pub erase-lowest : GivenLowest (refusing unburned s) (eraseTests image marks i s) accepted (eraseOf image marks i k mask s)
+  unfolding eraseOf
+  erase-lowest = lowest-tells (refusing unburned s) accepted 1 (eraseTests image marks i s) refl
 
 -- ---- the order of a partition is shorter than any cut that an erasure names which is not cut
 
@@ -74,42 +82,49 @@ pub whole-by : (image cells marks : List ℕ) → mapGood image ≡ true → who
 unfolding wholeArrays
 whole-by image cells marks good arrays = record { good = good; long = eqb-true _ _ (and _ _ arrays .0) }
 
-module _ (image cells marks : List ℕ) (cache : Cache) (i k mask : ℕ) where
-  abbrev cut : Outcome
-  cut = leftBy image i (runOn image cells marks i k mask)
+module _ (image marks : List ℕ) (i k mask : ℕ) (s : State) where
+  abbrev tests : List (Bool × ℕ)
+  tests = eraseTests image marks i s
 
-  abbrev uncut : Outcome
-  uncut = leftBy image i (runOn image cells marks i never 0)
+  -- the erasure where no test applies, uncut
+  abbrev uncut : Outcome Answer State
+  uncut = onCells s (ranOf image i (runOn image (s .cells) marks i never 0))
 
   -- "If the erasure would end before burn k, it runs as uncut", and is then "uncut" though it names a cut
-  pub late-is-uncut : burnsIn (erasureOf image cells marks cache i .answer) ≤ k → eraseOf image cells marks cache i k mask ≡ erasureOf image cells marks cache i
+  pub late-is-uncut : burnsIn (erasureOf image marks i s .told) ≤ k → eraseOf image marks i k mask s ≡ erasureOf image marks i s
   unfolding eraseOf
   late-is-uncut =
-      lowest-both (λ (o u : Outcome). burnsIn (u .answer) ≤ k → o ≡ u) (refusedOf cells) (refusedOf cells) (eraseTests image cells marks cache i) cut uncut
+      first-both (λ (o u : Outcome Answer State). burnsIn (u .told) ≤ k → o ≡ u) (refusing unburned s) (refusing unburned s) tests (accepted image marks i k mask s) uncut
       (λ n late. refl)
       (λ none late.
-      let r = runOn image cells marks i never 0 in
-      ap (leftBy image i) (late-run image cells i (whole-by image cells marks (not-false _ (none 0)) (not-false _ (none 1))) (leb-false _ _ (none 2)) marks k mask (rw (burns-in image i (r .tally) (r .end)) at late)))
+      let r = runOn image (s .cells) marks i never 0 in
+      ap (λ (x : Ran). onCells s (ranOf image i x))
+      (late-run image (s .cells) i (whole-by image (s .cells) marks (not-false _ (none 0)) (not-false _ (none 1))) (leb-false _ _ (none 2)) marks k mask
+      (rw (burns-in image i (r .tally) (r .end)) at late)))
 
   -- otherwise it is cut
-  pub early-is-cut : k < burnsIn (erasureOf image cells marks cache i .answer) → isCut (eraseOf image cells marks cache i k mask .answer) ≡ true
+  pub early-is-cut : k < burnsIn (erasureOf image marks i s .told) → isCut (eraseOf image marks i k mask s .told) ≡ true
   unfolding eraseOf
   early-is-cut =
-      lowest-both (λ (o u : Outcome). k < burnsIn (u .answer) → isCut (o .answer) ≡ true) (refusedOf cells) (refusedOf cells) (eraseTests image cells marks cache i) cut uncut
+      first-both (λ (o u : Outcome Answer State). k < burnsIn (u .told) → isCut (o .told) ≡ true)
+      (refusing unburned s) (refusing unburned s) tests (accepted image marks i k mask s) uncut
       (λ n early. absurd (omega arith))
       (λ none early.
-      let r = runOn image cells marks i never 0 in
-      rw (early-run image cells i (whole-by image cells marks (not-false _ (none 0)) (not-false _ (none 1))) (leb-false _ _ (none 2)) marks k mask (rw (burns-in image i (r .tally) (r .end)) at early)))
+      let r = runOn image (s .cells) marks i never 0 in
+      rw
+      (early-run image (s .cells) i (whole-by image (s .cells) marks (not-false _ (none 0)) (not-false _ (none 1))) (leb-false _ _ (none 2)) marks k mask
+      (rw (burns-in image i (r .tally) (r .end)) at early)))
 
--- an erasure that names no cut is not cut, so it leaves the cache as it finds it
-pub erasure-uncut : (image cells marks : List ℕ) (cache : Cache) (i : ℕ) → isCut (erasureOf image cells marks cache i .answer) ≡ false
+-- an erasure that names no cut is not cut
+pub erasure-uncut : (image marks : List ℕ) (i : ℕ) (s : State) → isCut (erasureOf image marks i s .told) ≡ false
 unfolding eraseOf
-erasure-uncut image cells marks cache i =
-    lowest-elim (λ (o : Outcome). isCut (o .answer) ≡ false) (refusedOf cells) (eraseTests image cells marks cache i) (leftBy image i (runOn image cells marks i never 0))
+erasure-uncut image marks i s =
+    first-elim (λ (o : Outcome Answer State). isCut (o .told) ≡ false) (refusing unburned s) (eraseTests image marks i s) (accepted image marks i never 0 s)
     (λ n _. refl)
-    (λ none. by (runOn image cells marks i never 0 .end) (λ e. uncut-judged image cells i (whole-by image cells marks (not-false _ (none 0)) (not-false _ (none 1))) (leb-false _ _ (none 2)) marks 0 e))
+    (λ none. by (runOn image (s .cells) marks i never 0 .end)
+    (λ e. uncut-judged image (s .cells) i (whole-by image (s .cells) marks (not-false _ (none 0)) (not-false _ (none 1))) (leb-false _ _ (none 2)) marks 0 e))
   where
-    by : (end : End) → (end ≡ CutEnd → ⊥) → isCut (answerBy end image i (runOn image cells marks i never 0 .tally)) ≡ false
+    by : (end : End) → (end ≡ CutEnd → ⊥) → isCut (answerBy end image i (runOn image (s .cells) marks i never 0 .tally)) ≡ false
     by Whole o = refl
     by Stopped o = refl
     by CutEnd o = absurd (o refl)
@@ -121,15 +136,20 @@ BurnsTold image i k (Ended short first burns) = burns ≡ length (order (softwar
 BurnsTold image i k (Cut burns) = burns ≡ k + 1
 BurnsTold image i k (Refused number burns) = burns ≡ cond (eqb number 15) 1 0
 
-run-tells : (image cells marks : List ℕ) (i k mask : ℕ) → WholeDrive image cells → (l : i < headerOf image .partitions) → (end : End) → runOn image cells marks i k mask .end ≡ end → BurnsTold image i k (answerBy end image i (runOn image cells marks i k mask .tally))
+run-tells : (image cells marks : List ℕ) (i k mask : ℕ) → WholeDrive image cells → (l : i < headerOf image .partitions) → (end : End)
+    → runOn image cells marks i k mask .end ≡ end → BurnsTold image i k (answerBy end image i (runOn image cells marks i k mask .tally))
 unfolding runOn
-run-tells image cells marks i k mask whole l Whole e = run-burns (cellsOf image marks i) (software (entryOf image i)) (headerOf image .bound) k mask (cellsOf image cells i) .whole e ∙ ap (λ (n : ℕ). length (order (software (entryOf image i)) n)) (part-long image cells i whole l)
+run-tells image cells marks i k mask whole l Whole e =
+    run-burns (cellsOf image marks i) (software (entryOf image i)) (headerOf image .bound) k mask (cellsOf image cells i) .whole e
+    ∙ ap (λ (n : ℕ). length (order (software (entryOf image i)) n)) (part-long image cells i whole l)
 run-tells image cells marks i k mask whole l Stopped e = run-burns (cellsOf image marks i) (software (entryOf image i)) (headerOf image .bound) k mask (cellsOf image cells i) .stopped e
 run-tells image cells marks i k mask whole l CutEnd e = run-burns (cellsOf image marks i) (software (entryOf image i)) (headerOf image .bound) k mask (cellsOf image cells i) .cut e
 
-pub burns-told : (image cells marks : List ℕ) (cache : Cache) (i k mask : ℕ) → BurnsTold image i k (eraseOf image cells marks cache i k mask .answer)
+pub burns-told : (image marks : List ℕ) (i k mask : ℕ) (s : State) → BurnsTold image i k (eraseOf image marks i k mask s .told)
 unfolding eraseOf
-burns-told image cells marks cache i k mask =
-    lowest-elim (λ (o : Outcome). BurnsTold image i k (o .answer)) (refusedOf cells) (eraseTests image cells marks cache i) (leftBy image i (runOn image cells marks i k mask))
-    (λ n a. rw (ne-eqb n 15 (λ e. not-applies 15 (eraseTests image cells marks cache i) refl (subst (λ (m : ℕ). Applies m (eraseTests image cells marks cache i)) e a))))
-    (λ none. run-tells image cells marks i k mask (whole-by image cells marks (not-false _ (none 0)) (not-false _ (none 1))) (leb-false _ _ (none 2)) (runOn image cells marks i k mask .end) refl)
+burns-told image marks i k mask s =
+    let tests = eraseTests image marks i s in
+    first-elim (λ (o : Outcome Answer State). BurnsTold image i k (o .told)) (refusing unburned s) tests (accepted image marks i k mask s)
+    (λ n a. rw (ne-eqb n 15 (λ e. not-applies 15 tests refl (subst (λ (m : ℕ). Applies m tests) e a))))
+    (λ none. run-tells image (s .cells) marks i k mask (whole-by image (s .cells) marks (not-false _ (none 0)) (not-false _ (none 1))) (leb-false _ _ (none 2))
+    (runOn image (s .cells) marks i k mask .end) refl)

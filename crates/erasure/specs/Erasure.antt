@@ -6,7 +6,8 @@ use mathlib.Core.Bool.{Bool, true, false, cond, not}
 use mathlib.Core.List.{List, [], _∷_, _++_}
 use lib.Dec.{leb}
 use lib.ListN.{length, take, drop}
-use Rattle.laws.specs.Refusals.{lowest}
+use Rattle.laws.specs.Refusals.{firstOf}
+use Rattle.context.specs.State.{State, withContext, Outcome, outcome, refusing, onCells}
 use Rattle.map.specs.Map.{headerOf, entryOf, software, zeroizable}
 use Rattle.partition.specs.declared.Lowest.{Lowest}
 use Rattle.partition.specs.declared.Lowest.the-variants.{Cell, Nothing}
@@ -15,26 +16,26 @@ use Rattle.burns.specs.declared.End.{End}
 use Rattle.burns.specs.declared.End.the-variants.{Whole, Stopped, Cut as CutEnd}
 use Rattle.burns.specs.Run.{Tally, tallyOf, Ran, ran, run}
 use Rattle.drive.specs.Drive.{Whole as WholeDrive, driveTests, cellsOf, slotInUse}
-use Rattle.cache.specs.Cache.{Cache, empty}
+use Rattle.cache.specs.Cache.{emptied}
 use Rattle.erasure.specs.declared.Answer.{Answer}
 use Rattle.erasure.specs.declared.Answer.the-variants.{Ended, Cut, Refused}
 
 -- ---- refusals
 
 -- of an erasure of partition i: 7 "no such partition", 8 "not zeroizable", 10 "slot change while keys are held"
-abbrev pub partitionTests : (image : List ℕ) (i : ℕ) → Cache → List (Bool × ℕ)
-partitionTests image i cache =
+abbrev pub partitionTests : (image : List ℕ) (i : ℕ) (context : List ℕ) → List (Bool × ℕ)
+partitionTests image i context =
     (leb (headerOf image .partitions) i, 7)
     ∷ (not (zeroizable (entryOf image i)), 8)
-    ∷ (slotInUse image i cache, 10)
+    ∷ (slotInUse image i context, 10)
     ∷ []
 
 -- all that are checked before a burn: 1 and 2 for the drive, 7, 8 and 10 for the partition; 15 is the run's, below
-abbrev pub eraseTests : (image cells marks : List ℕ) → Cache → (i : ℕ) → List (Bool × ℕ)
-eraseTests image cells marks cache i = driveTests image cells marks ++ partitionTests image i cache
+abbrev pub eraseTests : (image marks : List ℕ) (i : ℕ) → State → List (Bool × ℕ)
+eraseTests image marks i s = driveTests image (s .cells) marks ++ partitionTests image i (s .context)
 
 -- a drive and a partition that 1, 2, 7 and 8 do not concern: what the functions below the entry points ask for. 10 is the caller's,
--- since they are not lent the cache
+-- since they are not lent the context
 pub record Erasable (image cells marks : List ℕ) (i : ℕ) : Type 0 where
   pub whole : WholeDrive image cells
   pub marks-long : length marks ≡ length cells
@@ -75,37 +76,28 @@ answerBy Whole image i t =
 answerBy Stopped image i t = Refused 15 (t .burns)
 answerBy CutEnd image i t = Cut (t .burns)
 
--- the answer, and the cells afterwards
-pub record Outcome : Type 0 where
-  pub answer : Answer
-  pub cells : List ℕ
+-- what a run answers, and the cells that it leaves: with 15 those with the indicator burned
+abbrev pub ranOf : (image : List ℕ) (i : ℕ) → Ran → Outcome Answer (List ℕ)
+ranOf image i r = outcome (answerBy (r .end) image i (r .tally)) (r .tally .cells)
 
--- what an erasure left
-abbrev pub left : Answer → (cells : List ℕ) → Outcome
-left answer cells = record { answer = answer; cells = cells }
+-- the erasure of a drive that was judged, as FERS makes it: it is not cut
+abbrev pub uncutOf : (image cells marks : List ℕ) (i : ℕ) → Outcome Answer (List ℕ)
+uncutOf image cells marks i = ranOf image i (runOn image cells marks i never 0)
 
--- what a run answers and leaves: 15 leaves what the run has burned, which is the indicator
-abbrev pub leftBy : (image : List ℕ) (i : ℕ) → Ran → Outcome
-leftBy image i r = left (answerBy (r .end) image i (r .tally)) (r .tally .cells)
+-- ---- the erasures
 
--- a refusal before any burn leaves the cells as they were
-abbrev pub refusedOf : (cells : List ℕ) (number : ℕ) → Outcome
-refusedOf cells number = left (Refused number 0) cells
+-- a refusal before any burn
+abbrev pub unburned : (number : ℕ) → Answer
+unburned number = Refused number 0
 
 -- an erasure of partition i, cut at burn k if its order reaches it
-unfoldable pub eraseOf : (image cells marks : List ℕ) → Cache → (i k mask : ℕ) → Outcome
-eraseOf image cells marks cache i k mask =
-    lowest (refusedOf cells) (eraseTests image cells marks cache i) (leftBy image i (runOn image cells marks i k mask))
+unfoldable pub eraseOf : (image marks : List ℕ) (i k mask : ℕ) → State → Outcome Answer State
+eraseOf image marks i k mask s =
+    firstOf (refusing unburned s) (eraseTests image marks i s) (onCells s (ranOf image i (runOn image (s .cells) marks i k mask)))
 
 -- the erasure
-abbrev pub erasureOf : (image cells marks : List ℕ) → Cache → (i : ℕ) → Outcome
-erasureOf image cells marks cache i = eraseOf image cells marks cache i never 0
-
--- the erasure of a drive that was judged, as FERS makes it
-abbrev pub uncutOf : (image cells marks : List ℕ) (i : ℕ) → Outcome
-uncutOf image cells marks i = leftBy image i (runOn image cells marks i never 0)
-
--- ---- the cache
+abbrev pub erasureOf : (image marks : List ℕ) (i : ℕ) → State → Outcome Answer State
+erasureOf image marks i s = eraseOf image marks i never 0 s
 
 -- the power failed
 abbrev pub isCut : Answer → Bool
@@ -114,23 +106,17 @@ isCut (Cut burns) = true
 isCut (Refused number burns) = false
 
 -- of a cut erasure: "nothing follows and the key cache is empty"; where it ends before burn k, or is refused, it is not cut
-abbrev pub cacheAfter : Answer → Cache → Cache
-cacheAfter answer cache = cond (isCut answer) empty cache
-
--- the answer, and everything lent afterwards
-pub record CutOutcome : Type 0 where
-  pub answer : Answer
-  pub cells : List ℕ
-  pub cache : Cache
-
--- what a cut erasure left
-abbrev pub leftAll : Answer → (cells : List ℕ) → Cache → CutOutcome
-leftAll answer cells cache = record { answer = answer; cells = cells; cache = cache }
-
--- an outcome, with the cache that it leaves
-abbrev pub withCache : Cache → Outcome → CutOutcome
-withCache cache o = leftAll (o .answer) (o .cells) (cacheAfter (o .answer) cache)
+abbrev pub afterCut : Outcome Answer State → Outcome Answer State
+afterCut o =
+    let s : State = o .after in
+    outcome (o .told) (withContext (cond (isCut (o .told)) (emptied (s .context)) (s .context)) s)
 
 -- the cut erasure
-abbrev pub cutErasureOf : (image cells marks : List ℕ) → Cache → (i k mask : ℕ) → CutOutcome
-cutErasureOf image cells marks cache i k mask = withCache cache (eraseOf image cells marks cache i k mask)
+abbrev pub cutErasureOf : (image marks : List ℕ) (i k mask : ℕ) → State → Outcome Answer State
+cutErasureOf image marks i k mask s = afterCut (eraseOf image marks i k mask s)
+
+-- ---- the restart
+
+-- "A restart empties the cache and changes nothing else"
+abbrev pub restarted : State → State
+restarted s = withContext (emptied (s .context)) s

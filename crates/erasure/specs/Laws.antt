@@ -1,16 +1,16 @@
 -- The laws of an erasure on a drive: its refusal's number, the run over the partition that was read, and what is answered. Assumes nothing.
 use Prim.Native.Nat.{ℕ, _+_, _-_, _%_, _^_, _≤_, _<_}
-use mathlib.Core.Path.{_≡_, refl, sym, ap, subst, _∙_}
+use mathlib.Core.Path.{_≡_, refl, sym, ap, _∙_}
 use mathlib.Core.Bool.{Bool, true, false, cond}
 use mathlib.Core.List.{List, [], _++_}
 use native.Mathlib.Omega.{arith}
-use lib.Dec.{leb}
 use lib.ListN.{length, take, drop, length-drop, length-take}
-use borrow.Author.Tests.{le-leb, lt-leb, leb-false, not-false}
-use Rattle.laws.specs.Refusals.{lowest, numberOf, number-refuses, number-passes}
+use borrow.Author.Tests.{leb-false, not-false}
+use Rattle.laws.specs.Refusals.{firstOf, numberOf, testAt, refusalAt, Past, refused-at, past-all, number-refuses, number-passes}
+use Rattle.context.specs.State.{State, withCells, withContext, Outcome, outcome, refusing, onCells}
 use Rattle.map.specs.declared.Header.{Header}
 use Rattle.map.specs.declared.Entry.{Entry}
-use Rattle.map.specs.Map.{headerOf, entryOf, software, zeroizable}
+use Rattle.map.specs.Map.{headerOf, entryOf, software}
 use Rattle.map.specs.Laws.{map-header, map-entry}
 use Rattle.partition.specs.declared.Lowest.{Lowest}
 use Rattle.partition.specs.declared.Lowest.the-variants.{Cell, Nothing}
@@ -22,32 +22,22 @@ use Rattle.burns.specs.declared.End.the-variants.{Whole}
 use Rattle.burns.specs.declared.Report.{Report}
 use Rattle.burns.specs.Run.{Tally, tallyOf, Ran, ranAs, run}
 use Rattle.drive.specs.declared.Check.the-variants.{Ready, Refused as NotReady}
-use Rattle.drive.specs.Drive.{Whole as WholeDrive, checkOf, cellsOf, slotInUse}
+use Rattle.drive.specs.Drive.{Whole as WholeDrive, checkOf, cellsOf}
 use Rattle.drive.specs.Laws.{check-refused, check-passed, judged, part-is, shorts-most}
-use Rattle.cache.specs.Cache.{Cache, empty}
+use Rattle.cache.specs.Cache.{emptied}
 use Rattle.erasure.specs.declared.Answer.{Answer}
 use Rattle.erasure.specs.declared.Answer.the-variants.{Ended, Refused}
-use Rattle.erasure.specs.Erasure.{partitionTests, Erasable, inWhole, runOn, firstShort, answerBy, Outcome, left, leftBy, refusedOf, eraseOf, isCut, cacheAfter, leftAll, withCache}
+use Rattle.erasure.specs.Erasure.{partitionTests, Erasable, inWhole, runOn, firstShort, answerBy, ranOf, unburned, eraseOf, isCut, afterCut}
 
--- ---- the number of the partition's refusals
+-- ---- which of the partition's tests gives the number, by the test's place; 0 where none does
 
-module _ (image : List ℕ) (i : ℕ) (cache : Cache) {header : Header} (e : header ≡ headerOf image) where
-  pub gives-7 : header .partitions ≤ i → 7 ≡ numberOf (partitionTests image i cache)
-  gives-7 l = simp (le-leb _ _ (rw e at l))
+module _ (image : List ℕ) (i : ℕ) (context : List ℕ) where
+  pub partition-at : (k : ℕ) → Past k (partitionTests image i context) → testAt (partitionTests image i context) k ≡ true
+      → refusalAt (partitionTests image i context) k ≡ numberOf (partitionTests image i context)
+  partition-at k = refused-at (λ n. n) 0 k (partitionTests image i context)
 
-  module _ (l : i < header .partitions) where
-    past : leb (headerOf image .partitions) i ≡ false
-    past = lt-leb _ _ (rw e at l)
-
-    pub gives-8 : zeroizable (entryOf image i) ≡ false → 8 ≡ numberOf (partitionTests image i cache)
-    gives-8 z = simp (past, z)
-
-    module _ (z : zeroizable (entryOf image i) ≡ true) where
-      pub gives-10 : slotInUse image i cache ≡ true → 10 ≡ numberOf (partitionTests image i cache)
-      gives-10 s = simp (past, z, s)
-
-      pub gives-0 : slotInUse image i cache ≡ false → 0 ≡ numberOf (partitionTests image i cache)
-      gives-0 s = simp (past, z, s)
+  pub partition-past : Past 3 (partitionTests image i context) → 0 ≡ numberOf (partitionTests image i context)
+  partition-past = past-all (λ n. n) 0 (partitionTests image i context)
 
 -- ---- the partition's part of the arrays, at the entry x that was read
 
@@ -99,7 +89,8 @@ module _ (image cells marks : List ℕ) (i : ℕ) (ok : Erasable image cells mar
   burns-fit l = omega (arith, rw (part-is image cells i x e) at l, part-small image cells i (ok .whole) (ok .partition))
 
   -- a run over the part, as one over the partition
-  pub ran-on : {header : Header} → header ≡ headerOf image → {cells-alone : Bool} → cells-alone ≡ software x → (k mask : ℕ) {r : Report} {part : List ℕ} → ranAs r part ≡ run (partBy marks) cells-alone (header .bound) k mask (partBy cells)
+  pub ran-on : {header : Header} → header ≡ headerOf image → {cells-alone : Bool} → cells-alone ≡ software x → (k mask : ℕ) {r : Report} {part : List ℕ}
+      → ranAs r part ≡ run (partBy marks) cells-alone (header .bound) k mask (partBy cells)
       → ranAs r (take (x .first) cells ++ (part ++ drop (x .first + x .n - x .first) (drop (x .first) cells))) ≡ runOn image cells marks i k mask
   unfolding runOn
   ran-on {header} h {cells-alone} w k mask {r} {part} q =
@@ -109,7 +100,8 @@ module _ (image cells marks : List ℕ) (i : ℕ) (ok : Erasable image cells mar
 
 -- ---- the answer, at the values that were read
 
-pub ended-is : (image cells : List ℕ) (i burns : ℕ) {header : Header} {x : Entry} {part : List ℕ} {shorts : Shorts} {first : ℕ} → header ≡ headerOf image → x ≡ entryOf image i → part ≡ cellsOf image cells i
+pub ended-is : (image cells : List ℕ) (i burns : ℕ) {header : Header} {x : Entry} {part : List ℕ} {shorts : Shorts} {first : ℕ} → header ≡ headerOf image
+    → x ≡ entryOf image i → part ≡ cellsOf image cells i
     → shorts ≡ shortsOf (header .bound) part → first ≡ firstShort (x .first) (shorts .lowest)
     → Ended (shorts .count) first burns ≡ answerBy Whole image i (tallyOf cells burns)
 ended-is image cells i burns h e p q f = rw (f, q, p, h, e)
@@ -119,46 +111,48 @@ pub ended : (image : List ℕ) (i : ℕ) (t : Tally) {end told : End} {answer : 
 ended image i t e q = q ∙ ap (λ (x : End). answerBy x image i t) (sym e)
 
 -- what a run leaves, by what is reported of it
-pub run-left : (image : List ℕ) (i : ℕ) {r : Ran} {report : Report} {cells : List ℕ} {answer : Answer} → ranAs report cells ≡ r → answer ≡ answerBy (report .end) image i (tallyOf cells (report .burns)) → left answer cells ≡ leftBy image i r
-run-left image i {cells = cells} e q = ap (λ (answer : Answer). left answer cells) q ∙ ap (leftBy image i) e
+pub run-left : (image : List ℕ) (i : ℕ) {r : Ran} {report : Report} {cells : List ℕ} {answer : Answer} → ranAs report cells ≡ r
+    → answer ≡ answerBy (report .end) image i (tallyOf cells (report .burns)) → outcome answer cells ≡ ranOf image i r
+run-left image i {cells = cells} e q = ap (λ (answer : Answer). outcome answer cells) q ∙ ap (ranOf image i) e
 
 -- ---- an erasure, by where its judging ends
 
-module _ (image cells marks : List ℕ) (cache : Cache) (i k mask : ℕ) where
-  accepted : Outcome
-  accepted = leftBy image i (runOn image cells marks i k mask)
+module _ (image marks : List ℕ) (i k mask : ℕ) (s : State) where
+  -- what it does where no test applies
+  abbrev accepted : Outcome Answer State
+  accepted = onCells s (ranOf image i (runOn image (s .cells) marks i k mask))
 
-  pub erase-drive : (n : ℕ) → NotReady n ≡ checkOf image cells marks → left (Refused n 0) cells ≡ eraseOf image cells marks cache i k mask
-  unfolding eraseOf accepted
-  erase-drive n e = sym (check-refused (refusedOf cells) (partitionTests image i cache) accepted image cells marks n e)
+  pub erase-drive : (n : ℕ) → NotReady n ≡ checkOf image (s .cells) marks → outcome (Refused n 0) s ≡ eraseOf image marks i k mask s
+  unfolding eraseOf
+  erase-drive n e = sym (check-refused (refusing unburned s) (partitionTests image i (s .context)) accepted image (s .cells) marks n e)
 
-  module _ {header : Header} (e : Ready header ≡ checkOf image cells marks) where
-    past-drive : eraseOf image cells marks cache i k mask ≡ lowest (refusedOf cells) (partitionTests image i cache) accepted
-    unfolding eraseOf accepted
-    past-drive = check-passed (refusedOf cells) (partitionTests image i cache) accepted image cells marks header e
+  module _ {header : Header} (e : Ready header ≡ checkOf image (s .cells) marks) where
+    past-drive : eraseOf image marks i k mask s ≡ firstOf (refusing unburned s) (partitionTests image i (s .context)) accepted
+    unfolding eraseOf
+    past-drive = check-passed (refusing unburned s) (partitionTests image i (s .context)) accepted image (s .cells) marks header e
 
-    pub erase-refused : (n : ℕ) → n ≡ numberOf (partitionTests image i cache) → (n ≡ 0 → ⊥) → left (Refused n 0) cells ≡ eraseOf image cells marks cache i k mask
-    erase-refused n q o = sym (past-drive ∙ number-refuses (refusedOf cells) [] accepted (partitionTests image i cache) n q o)
+    pub erase-refused : (n : ℕ) → n ≡ numberOf (partitionTests image i (s .context)) → (n ≡ 0 → ⊥) → outcome (Refused n 0) s ≡ eraseOf image marks i k mask s
+    erase-refused n q o = sym (past-drive ∙ number-refuses (refusing unburned s) [] accepted (partitionTests image i (s .context)) n q o)
 
-    module _ (none : 0 ≡ numberOf (partitionTests image i cache)) where
-      pub erase-runs : leftBy image i (runOn image cells marks i k mask) ≡ eraseOf image cells marks cache i k mask
-      unfolding accepted
-      erase-runs = sym (past-drive ∙ number-passes (refusedOf cells) [] accepted (partitionTests image i cache) 0 refl none .is)
+    module _ (none : 0 ≡ numberOf (partitionTests image i (s .context))) where
+      pub erase-runs : {answer : Answer} {cells : List ℕ} → outcome answer cells ≡ ranOf image i (runOn image (s .cells) marks i k mask)
+          → outcome answer (withCells cells s) ≡ eraseOf image marks i k mask s
+      erase-runs q = ap (onCells s) q ∙ sym (past-drive ∙ number-passes (refusing unburned s) [] accepted (partitionTests image i (s .context)) refl none .is)
 
-      pub erasable : Erasable image cells marks i
+      pub erasable : Erasable image (s .cells) marks i
       erasable =
-          let told = judged image cells marks header e in
-          let passed = number-passes (refusedOf cells) [] accepted (partitionTests image i cache) 0 refl none in
+          let told = judged image (s .cells) marks header e in
+          let passed = number-passes (refusing unburned s) [] accepted (partitionTests image i (s .context)) refl none in
           record { whole = told .whole; marks-long = told .marks-long ∙ sym (told .whole .long); partition = leb-false _ _ (passed .none 0); may = not-false _ (passed .none 1) }
 
--- ---- a cut erasure, with its cache
+-- ---- a cut erasure, with its context
 
-module _ {answer : Answer} {cells : List ℕ} {o : Outcome} (e : left answer cells ≡ o) (cache : Cache) where
-  cache-kept : leftAll answer cells (cacheAfter answer cache) ≡ withCache cache o
-  cache-kept = ap (withCache cache) e
+module _ {answer : Answer} {s : State} {o : Outcome Answer State} (e : outcome answer s ≡ o) where
+  left-by : {cut : Bool} → isCut answer ≡ cut → outcome answer (withContext (cond cut (emptied (s .context)) (s .context)) s) ≡ afterCut o
+  left-by c = rw (← c) (ap afterCut e)
 
-  pub cut-left : {after : Cache} → isCut answer ≡ true → after ≡ empty → leftAll answer cells after ≡ withCache cache o
-  cut-left c q = rw q (subst (λ (b : Bool). leftAll answer cells (cond b empty cache) ≡ withCache cache o) c cache-kept)
+  pub cut-left : {context : List ℕ} → isCut answer ≡ true → context ≡ emptied (s .context) → outcome answer (withContext context s) ≡ afterCut o
+  cut-left c q = rw q (left-by c)
 
-  pub uncut-left : isCut answer ≡ false → leftAll answer cells cache ≡ withCache cache o
-  uncut-left c = subst (λ (b : Bool). leftAll answer cells (cond b empty cache) ≡ withCache cache o) c cache-kept
+  pub uncut-left : isCut answer ≡ false → outcome answer s ≡ afterCut o
+  uncut-left c = left-by c

@@ -105,7 +105,8 @@ same-array image i c d long out part =
 abbrev pub Apart : (image : List ℕ) (i j : ℕ) → Type 0
 Apart image i j = (endOf (entryOf image i) ≤ entryOf image j .first) ⊎ (endOf (entryOf image j) ≤ entryOf image i .first)
 
-pub run-apart : (image cells marks : List ℕ) (i k mask : ℕ) → Whole image cells → i < headerOf image .partitions → (j : ℕ) → Apart image i j → cellsOf image (runOn image cells marks i k mask .tally .cells) j ≡ cellsOf image cells j
+pub run-apart : (image cells marks : List ℕ) (i k mask : ℕ) → Whole image cells → i < headerOf image .partitions → (j : ℕ) → Apart image i j
+    → cellsOf image (runOn image cells marks i k mask .tally .cells) j ≡ cellsOf image cells j
 run-apart image cells marks i k mask whole l j apart =
     let after = runOn image cells marks i k mask .tally .cells in
     let n = entryOf image j .n in
@@ -113,5 +114,9 @@ run-apart image cells marks i k mask whole l j apart =
     ext-getD 0 (cellsOf image after j) (cellsOf image cells j) (simp (length-take, length-drop) (rw long))
     (λ m b.
     let in-part : m < n = omega (arith, simp length-take at b) in
-    let out : Outside image i (entryOf image j .first + m) = ⊎-elim (λ (a : endOf (entryOf image i) ≤ entryOf image j .first). inr (omega arith)) (λ (a : endOf (entryOf image j) ≤ entryOf image i .first). inl (omega arith)) apart in
+    let out : Outside image i (entryOf image j .first + m) =
+    ⊎-elim
+    (λ (a : endOf (entryOf image i) ≤ entryOf image j .first). inr (omega arith))
+    (λ (a : endOf (entryOf image j) ≤ entryOf image i .first). inl (omega arith))
+    apart in
     part-at image after j m in-part ∙ run-outside image cells marks i k mask whole l (entryOf image j .first + m) out ∙ sym (part-at image cells j m in-part))

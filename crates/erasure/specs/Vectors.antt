@@ -13,11 +13,12 @@ use Rattle.map.specs.Vectors.{image, entry}
 use Rattle.fuse.specs.Fuse.{burnCell, burnWord}
 use Rattle.partition.specs.Partition.{shortAt, counted, lowestShort}
 use Rattle.burns.specs.Run.{wordsFrom, order, goesOn, stopsAfter, burnsOf}
-use Rattle.cache.specs.Cache.{Cache, cacheOf, empty, isAt}
+use Rattle.context.specs.State.{state, outcome}
+use Rattle.cache.specs.Cache.{cacheOf, isAt, emptied}
 use Rattle.drive.specs.Drive.{wholeArrays}
 use Rattle.erasure.specs.declared.Answer.{Answer}
 use Rattle.erasure.specs.declared.Answer.the-variants.{Ended, Cut, Refused}
-use Rattle.erasure.specs.Erasure.{runOn, eraseOf, erasureOf, cutErasureOf, left, leftAll}
+use Rattle.erasure.specs.Erasure.{runOn, eraseOf, erasureOf, cutErasureOf}
 
 abbrev all : ℕ
 all = 0xFFFF_FFFF
@@ -35,28 +36,33 @@ start = cells 3 0 0 0 0 0
 abbrev marks : (m7 m10 : ℕ) → List ℕ
 marks m7 m10 = replicate 7 0 ++ (m7 ∷ 0 ∷ 0 ∷ m10 ∷ replicate 5 0)
 
--- a cache that holds one tag
-abbrev held : Cache
-held = cacheOf (1 ∷ replicate 15 0) (5 ∷ replicate 15 0)
+-- a context with one tag in the cache, and one with none
+abbrev held : List ℕ
+held = 1 ∷ replicate 15 0 ++ (5 ∷ replicate 15 0)
+
+abbrev none : List ℕ
+none = replicate 32 0
 
 -- whole: four burns, one short pair, named by its cell in the whole array; and 15, which leaves the burned indicator
-erasures : erasureOf drive start (marks 0x1F 0) held 1 ∷ erasureOf drive start (marks 0 0x1F) held 1 ∷ []
-    ≡ left (Ended 1 6 4) (cells all 0xFFFF_FFE0 all all all all) ∷ left (Refused 15 1) (cells 3 0 0 0 0xFFFF_FFE0 all) ∷ []
-unfolding eraseOf mapGood wholeArrays every headerGood fillerGood entryGood placeGood allBelow u16At runOn burnsOf order wordsFrom burnWord burnCell stopsAfter goesOn counted shortAt countBelow lowestShort firstFrom onesIn isAt
+erasures : erasureOf drive (marks 0x1F 0) 1 (state start held) ∷ erasureOf drive (marks 0 0x1F) 1 (state start held) ∷ []
+    ≡ outcome (Ended 1 6 4) (state (cells all 0xFFFF_FFE0 all all all all) held) ∷ outcome (Refused 15 1) (state (cells 3 0 0 0 0xFFFF_FFE0 all) held) ∷ []
+unfolding eraseOf mapGood wholeArrays every headerGood fillerGood entryGood placeGood allBelow u16At runOn burnsOf order wordsFrom burnWord burnCell stopsAfter
+    goesOn counted shortAt countBelow lowestShort firstFrom onesIn cacheOf isAt
 erasures = refl
 
 -- cut at the second data word, burn 2: the mask's low 32 bits go into it, three burns; a cut at burn 4, past the order, is none, and
 -- leaves the cache
-cuts : cutErasureOf drive start (marks 0 0) held 1 2 0x3_0000_0005 ∷ cutErasureOf drive start (marks 0 0) held 1 4 0 ∷ []
-    ≡ leftAll (Cut 3) (cells all 5 0 0 all all) empty ∷ leftAll (Ended 0 0xFFFF_FFFF 4) (cells all all all all all all) held ∷ []
-unfolding eraseOf mapGood wholeArrays every headerGood fillerGood entryGood placeGood allBelow u16At runOn burnsOf order wordsFrom burnWord burnCell stopsAfter goesOn counted shortAt countBelow lowestShort firstFrom onesIn isAt
+cuts : cutErasureOf drive (marks 0 0) 1 2 0x3_0000_0005 (state start held) ∷ cutErasureOf drive (marks 0 0) 1 4 0 (state start held) ∷ []
+    ≡ outcome (Cut 3) (state (cells all 5 0 0 all all) none) ∷ outcome (Ended 0 0xFFFF_FFFF 4) (state (cells all all all all all all) held) ∷ []
+unfolding eraseOf mapGood wholeArrays every headerGood fillerGood entryGood placeGood allBelow u16At runOn burnsOf order wordsFrom burnWord burnCell stopsAfter
+    goesOn counted shortAt countBelow lowestShort firstFrom onesIn cacheOf isAt emptied
 cuts = refl
 
 -- 1, 2, 7, 8 and 10, with a key held and the slot's indicator stuck, so that 15 would follow 10
 abbrev refusalOf : (image cells : List ℕ) (i : ℕ) → Answer
-refusalOf image cells i = erasureOf image cells (replicate 5 0 ++ (0x1F ∷ replicate 10 0)) held i .answer
+refusalOf image cells i = erasureOf image (replicate 5 0 ++ (0x1F ∷ replicate 10 0)) i (state cells held) .told
 
 refusals : refusalOf [] [] 9 ∷ refusalOf drive [] 9 ∷ refusalOf drive start 3 ∷ refusalOf drive start 2 ∷ refusalOf drive start 0 ∷ []
     ≡ Refused 1 0 ∷ Refused 2 0 ∷ Refused 7 0 ∷ Refused 8 0 ∷ Refused 10 0 ∷ []
-unfolding eraseOf mapGood wholeArrays every headerGood fillerGood entryGood placeGood allBelow u16At firstFrom isAt
+unfolding eraseOf mapGood wholeArrays every headerGood fillerGood entryGood placeGood allBelow u16At firstFrom cacheOf isAt
 refusals = refl

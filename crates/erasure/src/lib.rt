@@ -3,9 +3,10 @@
 // the array, cut or not. `erase`, `erase_cut` and `restart` are the entry points: they answer for any
 // bytes and any lengths. `erase_judged` serves FERS. The definitions are in `specs/Erasure`, the laws
 // in `specs/Laws`, what a run leaves of the whole array in `specs/Parts`, what holds of cuts in
-// `specs/Cuts`. It rests on `burns`, `drive`, `cache` and what lies below them.
+// `specs/Cuts`. It rests on `burns`, `drive`, `cache`, `context` and what lies below them.
 use burns::End;
 use burns::Report;
+use context::Context;
 use drive::Check;
 use partition::Lowest;
 ghost use mathlib.Core.Path.{_≡_};
@@ -14,8 +15,9 @@ ghost use Rattle.laws.specs.Refusals.{numberOf};
 ghost use Rattle.map.specs.Map.{headerOf};
 ghost use Rattle.burns.specs.Run.{tallyOf, ranAs};
 ghost use Rattle.drive.specs.Drive.{Whole};
-ghost use Rattle.cache.specs.Cache.{cacheOf, empty};
-ghost use Rattle.erasure.specs.Erasure.{partitionTests, Erasable, runOn, firstShort, answerBy, isCut, left, leftBy, leftAll, uncutOf, eraseOf, erasureOf, cutErasureOf};
+ghost use Rattle.cache.specs.Cache.{emptied};
+ghost use Rattle.context.specs.State.{state, outcome};
+ghost use Rattle.erasure.specs.Erasure.{partitionTests, Erasable, runOn, firstShort, answerBy, ranOf, isCut, uncutOf, eraseOf, erasureOf, cutErasureOf};
 
 // What an erasure answers: that it ended, its short pairs, the first cell of the lowest one (0xFFFFFFFF
 // if none) and the burns carried out; the partition is then erased only if no pair is short. Or that it
@@ -35,8 +37,8 @@ const NO_CELL: u32 = 0xFFFF_FFFF;
 
 // The lowest of the refusals 7, 8 and 10 that applies to the erasure of a partition, 0 where none
 // does.
-pub fn partition_refusal(image: &[u8], i: u32, kinds: &[u8; 16], tags: &[u64; 16]) -> u32
-    ensures { λ r. ⌜ r ≡ numberOf (partitionTests (now (image .entry)) i (cacheOf (now (kinds .entry)) (now (tags .entry)))) ⌝ }
+pub fn partition_refusal(image: &[u8], i: u32, context: &Context) -> u32
+    ensures { λ r. ⌜ r ≡ numberOf (partitionTests (now (image .entry)) i (now (context .entry))) ⌝ }
 {
     let header = map::read_header(image);
     if (header.partitions as u32) <= i {
@@ -45,7 +47,7 @@ pub fn partition_refusal(image: &[u8], i: u32, kinds: &[u8; 16], tags: &[u64; 16
     if !map::is_zeroizable(map::read_entry(image, i)) {
         return 8;
     }
-    if drive::is_slot_in_use(image, i, kinds, tags) {
+    if drive::is_slot_in_use(image, i, context) {
         return 10;
     }
     0
@@ -111,7 +113,7 @@ fn answer_of(image: &[u8], cells: &[u32], i: u32, report: Report) -> Answer
 // The erasure of partition `i` of a drive that was judged, cut at burn `k` if its order reaches it.
 fn run_judged(image: &[u8], cells: &mut [u32], marks: &[u32], i: u32, k: u32, mask: u64) -> Answer
     requires { ⌜ Erasable (now image) (now cells) (now marks) i ⌝ }
-    ensures { λ r. ⌜ left r (now (cells .exit)) ≡ leftBy (now (image .entry)) i (runOn (now (image .entry)) (now (cells .entry)) (now (marks .entry)) i k mask) ⌝ }
+    ensures { λ r. ⌜ outcome r (now (cells .exit)) ≡ ranOf (now (image .entry)) i (runOn (now (image .entry)) (now (cells .entry)) (now (marks .entry)) i k mask) ⌝ }
 {
     let report = run_on(image, cells, marks, i, k, mask);
     answer_of(image, cells, i, report)
@@ -120,7 +122,7 @@ fn run_judged(image: &[u8], cells: &mut [u32], marks: &[u32], i: u32, k: u32, ma
 // The erasure of partition `i` of a drive that was judged, not cut.
 pub fn erase_judged(image: &[u8], cells: &mut [u32], marks: &[u32], i: u32) -> Answer
     requires { ⌜ Erasable (now image) (now cells) (now marks) i ⌝ }
-    ensures { λ r. ⌜ left r (now (cells .exit)) ≡ uncutOf (now (image .entry)) (now (cells .entry)) (now (marks .entry)) i ⌝ }
+    ensures { λ r. ⌜ outcome r (now (cells .exit)) ≡ uncutOf (now (image .entry)) (now (cells .entry)) (now (marks .entry)) i ⌝ }
 {
     run_judged(image, cells, marks, i, NEVER, 0)
 }
@@ -130,13 +132,13 @@ fn attempt(
     image: &[u8],
     cells: &mut [u32],
     marks: &[u32],
-    kinds: &[u8; 16],
-    tags: &[u64; 16],
+    context: &mut Context,
     i: u32,
     k: u32,
     mask: u64,
 ) -> Answer
-    ensures { λ r. ⌜ left r (now (cells .exit)) ≡ eraseOf (now (image .entry)) (now (cells .entry)) (now (marks .entry)) (cacheOf (now (kinds .entry)) (now (tags .entry))) i k mask ⌝ }
+    ensures { λ r. ⌜ outcome r (state (now (cells .exit)) (now (context .exit)))
+        ≡ eraseOf (now (image .entry)) (now (marks .entry)) i k mask (state (now (cells .entry)) (now (context .entry))) ⌝ }
 {
     match drive::check_drive(image, cells, marks) {
         Check::Refused(number) => Answer::Refused {
@@ -144,7 +146,7 @@ fn attempt(
             burns: 0,
         },
         Check::Ready(_) => {
-            let number = partition_refusal(image, i, kinds, tags);
+            let number = partition_refusal(image, i, context);
             if number != 0 {
                 return Answer::Refused {
                     number: number,
@@ -161,13 +163,13 @@ pub fn erase(
     image: &[u8],
     cells: &mut [u32],
     marks: &[u32],
-    kinds: &[u8; 16],
-    tags: &[u64; 16],
+    context: &mut Context,
     i: u32,
 ) -> Answer
-    ensures { λ r. ⌜ left r (now (cells .exit)) ≡ erasureOf (now (image .entry)) (now (cells .entry)) (now (marks .entry)) (cacheOf (now (kinds .entry)) (now (tags .entry))) i ⌝ }
+    ensures { λ r. ⌜ outcome r (state (now (cells .exit)) (now (context .exit)))
+        ≡ erasureOf (now (image .entry)) (now (marks .entry)) i (state (now (cells .entry)) (now (context .entry))) ⌝ }
 {
-    attempt(image, cells, marks, kinds, tags, i, NEVER, 0)
+    attempt(image, cells, marks, context, i, NEVER, 0)
 }
 
 // Whether an erasure was cut.
@@ -194,24 +196,24 @@ pub fn erase_cut(
     image: &[u8],
     cells: &mut [u32],
     marks: &[u32],
-    kinds: &mut [u8; 16],
-    tags: &mut [u64; 16],
+    context: &mut Context,
     i: u32,
     k: u32,
     mask: u64,
 ) -> Answer
-    ensures { λ r. ⌜ leftAll r (now (cells .exit)) (cacheOf (now (kinds .exit)) (now (tags .exit))) ≡ cutErasureOf (now (image .entry)) (now (cells .entry)) (now (marks .entry)) (cacheOf (now (kinds .entry)) (now (tags .entry))) i k mask ⌝ }
+    ensures { λ r. ⌜ outcome r (state (now (cells .exit)) (now (context .exit)))
+        ≡ cutErasureOf (now (image .entry)) (now (marks .entry)) i k mask (state (now (cells .entry)) (now (context .entry))) ⌝ }
 {
-    let answer = attempt(image, cells, marks, kinds, tags, i, k, mask);
+    let answer = attempt(image, cells, marks, context, i, k, mask);
     if is_cut(answer) {
-        cache::clear(kinds, tags);
+        cache::clear(context);
     }
     answer
 }
 
-// A restart: it empties the cache, and is lent nothing else.
-pub fn restart(kinds: &mut [u8; 16], tags: &mut [u64; 16])
-    ensures { λ _. ⌜ cacheOf (now (kinds .exit)) (now (tags .exit)) ≡ empty ⌝ }
+// A restart: it empties the cache, and is lent nothing but the context.
+pub fn restart(context: &mut Context)
+    ensures { λ _. ⌜ now (context .exit) ≡ emptied (now (context .entry)) ⌝ }
 {
-    cache::clear(kinds, tags);
+    cache::clear(context);
 }

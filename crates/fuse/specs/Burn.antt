@@ -19,7 +19,8 @@ use lib.Bits.{bitAnd, bitOr, or-lt, and-le-r}
 use lib.Count.{ones}
 use lib.Pow.{ones-sub-lt}
 use borrow.Author.Tests.{lt-ltb, ltb-true}
-use Rattle.laws.specs.Bits.{_⊆_, ext, bit-or, bit-and, bit-not, sub-refl, sub-antisym, sub-or-l, sub-or-r, sub-and-l, sub-and-r, or-lub, or-mono, and-mono, full-and}
+use Rattle.laws.specs.Bits.{_⊆_, ext, bit-or, bit-and, bit-not, sub-refl, sub-antisym, sub-or-l, sub-or-r, sub-and-l, sub-and-r, or-lub, or-mono, and-mono}
+use Rattle.laws.specs.Bits.{full-and}
 use Rattle.laws.specs.Ones.{counted, count-le, count-mono, cat-sub}
 use Rattle.fuse.specs.Fuse.{allSet, free, burn, pairOf, onesOf, short, cellsIn, burnCell, burnWord}
 
@@ -51,7 +52,8 @@ module _ (stuck : ℕ) where
       burn-all c ∙ sub-antisym (or-lub q (sub-or-r s (free stuck))) (or-mono p (sub-refl (free stuck))) ∙ sym (burn-all s)
 
 -- a burn of a pair is the burn of its low cell and then of its high cell
-pub burn-pair : (marks : List ℕ) (k v : ℕ) (cells : List ℕ) {mid after : List ℕ} → mid ≡ burnCell marks k (v % 2 ^ 32) cells → after ≡ burnCell marks (k + 1) (v / 2 ^ 32) mid → after ≡ burnWord marks k true v cells
+pub burn-pair : (marks : List ℕ) (k v : ℕ) (cells : List ℕ) {mid after : List ℕ} → mid ≡ burnCell marks k (v % 2 ^ 32) cells
+    → after ≡ burnCell marks (k + 1) (v / 2 ^ 32) mid → after ≡ burnWord marks k true v cells
 unfolding burnWord
 burn-pair marks k v cells p q = q ∙ ap (burnCell marks (k + 1) (v / 2 ^ 32)) p
 

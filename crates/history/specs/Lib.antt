@@ -4,4 +4,8 @@ pub mod Secrets
 pub mod HeldKeys
 pub mod Refused
 pub mod Demand3
+pub mod Forms
+pub mod Attempts
+pub mod Reached
+pub mod Demand3Proof
 pub mod SmallDrive

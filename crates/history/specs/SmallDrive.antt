@@ -16,23 +16,26 @@ use Rattle.partition.specs.declared.State.{State as PartitionState}
 use Rattle.partition.specs.declared.State.the-variants.{Erased, Torn, Programmed}
 use Rattle.partition.specs.Partition.{shortAt, counted, zeroCell, stateOf, lowestShort}
 use Rattle.burns.specs.Run.{wordsFrom, order, goesOn, stopsAfter, burnsOf}
-use Rattle.cache.specs.Cache.{empty, isAt}
+use Rattle.context.specs.State.{State, state}
+use Rattle.cache.specs.Cache.{cacheOf, isAt, emptied}
 use Rattle.drive.specs.Drive.{wholeArrays, surveyAt, slotAt, openSlot, activeSlot, available}
 use Rattle.engine.specs.declared.Order.the-variants.{Nothing, Clear}
 use Rattle.engine.specs.Engine.{zeros}
 use Rattle.erasure.specs.declared.Answer.the-variants.{Ended, Cut, Refused as NotErased}
 use Rattle.erasure.specs.Erasure.{runOn, eraseOf}
+use Rattle.codec.specs.declared.Command.the-variants.{Clkc, Fers, Fsta}
+use Rattle.codec.specs.Fields.{codeOf}
 use Rattle.codec.specs.Request.{requestTests}
 use Rattle.mailbox.specs.declared.Reply.the-variants.{Refused, Accepted}
 use Rattle.mailbox.specs.Mailbox.{doneOf}
-use Rattle.history.specs.Calls.{State, state, Call, Erase, EraseCut, Mailbox, Told, Erasing, Replying, told, after, afterAll}
+use Rattle.history.specs.Calls.{Call, Erase, EraseCut, Mailbox, Told, Erasing, Replying, told, after, afterAll}
 
 -- "P = 2, C = 12, B = 60, E = 8 .. Cell 0 is 1, all others 0, no stuck marks, cache empty"
 abbrev small : List ℕ
 small = image 2 12 60 8 [] two
 
 abbrev start : State
-start = state (1 ∷ replicate 11 0) empty
+start = state (1 ∷ replicate 11 0) (replicate 32 0)
 
 abbrev noMarks : List ℕ
 noMarks = replicate 12 0
@@ -46,13 +49,13 @@ abbrev mailbox : (code : ℕ) (request : List ℕ) → Call
 mailbox code request = Mailbox code request (replicate 20 9) (replicate 128 7)
 
 abbrev fsta : Call
-fsta = mailbox 0x4653_5441 (bytes4 0xFFFF_FED2 ++ bytes4 0)
+fsta = mailbox (codeOf Fsta) (bytes4 0xFFFF_FED2 ++ bytes4 0)
 
 abbrev fers : (chksum partition : ℕ) → Call
-fers chksum partition = mailbox 0x4645_5253 (bytes4 chksum ++ bytes4 0 ++ bytes4 partition)
+fers chksum partition = mailbox (codeOf Fers) (bytes4 chksum ++ bytes4 0 ++ bytes4 partition)
 
 abbrev clkc : Call
-clkc = mailbox 0x434C_4B43 (bytes4 0xFFFF_FDF8 ++ bytes4 0 ++ bytes4 1000)
+clkc = mailbox (codeOf Clkc) (bytes4 0xFFFF_FDF8 ++ bytes4 0 ++ bytes4 1000)
 
 -- the low bits of a mask
 abbrev low : (bits : ℕ) → ℕ
@@ -115,7 +118,11 @@ cases =
     ∷ (seen noMarks [] (EraseCut 0 0 (low 60)), row (Erasing (Cut 1)) (slotCells 1 0 0 0 all 0x0FFF_FFFF) 1 Torn 2 false)
     -- 7: cut at the first data word, and FERS again, as case 2
     ∷ (seen noMarks [] (EraseCut 0 1 0xFFFF_FFFF), row (Erasing (Cut 2)) (slotCells all 0 0 0 all all) 32 Torn 2 false)
-    ∷ (seen noMarks (EraseCut 0 1 0xFFFF_FFFF ∷ []) (fers 0xFFFF_FED0 0), row (Replying (Accepted 20 Nothing) (response 0xFFFF_FC04 0 0xFFFF_FFFF)) (slotCells all all all all all all) 64 Erased 0 false)
+    ∷ (
+      seen noMarks (EraseCut 0 1 0xFFFF_FFFF ∷ []) (fers 0xFFFF_FED0 0),
+      row (Replying (Accepted 20 Nothing) (response 0xFFFF_FC04 0 0xFFFF_FFFF))
+          (slotCells all all all all all all) 64 Erased 0 false,
+    )
     -- 8: partition 1, and 2
     ∷ (seen noMarks [] (fers 0xFFFF_FECF 1), row (Replying (Refused 8) []) (slotCells 1 0 0 0 0 0) 1 Programmed 3 true)
     ∷ (seen noMarks [] (fers 0xFFFF_FECE 2), row (Replying (Refused 7) []) (slotCells 1 0 0 0 0 0) 1 Programmed 3 true)
@@ -125,5 +132,7 @@ cases =
 
 -- every call shows what the document says
 table : map (λ (c : Seen × Seen). c .0) cases ≡ map (λ (c : Seen × Seen). c .1) cases
-unfolding cases doneOf requestTests mapGood wholeArrays every headerGood fillerGood entryGood placeGood allBelow u16At u32At activeSlot openSlot slotAt surveyAt stateOf counted shortAt zeroCell countBelow firstFrom onesIn isAt runOn eraseOf burnsOf order wordsFrom stopsAfter goesOn burnWord burnCell lowestShort
+unfolding cases doneOf requestTests mapGood wholeArrays every headerGood fillerGood entryGood placeGood allBelow u16At u32At activeSlot openSlot slotAt surveyAt
+    stateOf counted shortAt zeroCell countBelow firstFrom onesIn cacheOf isAt emptied runOn eraseOf burnsOf order wordsFrom stopsAfter goesOn burnWord burnCell
+    lowestShort
 table = refl

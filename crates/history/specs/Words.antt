@@ -79,7 +79,8 @@ module _ (image : List ℕ) (good : mapGood image ≡ true) (i : ℕ) (l : i < h
       (word-past (j - 1) (omega (arith, rules .n-least)) ∙ rw s (cell-at i (x .first + (j - 1)) (j - 1) (x .n) (rules .n-least) (omega arith))))
       (λ (s : software x ≡ false).
       let count = count-pairs (software x) (x .n) s in
-      let last : eqb (j + 1) (length words) ≡ eqb (2 * (j - 1)) (x .n - 4) = same-test (j + 1) (length words) (2 * (j - 1)) (x .n - 4) (λ e. omega (arith, rules .n-even)) (λ e. omega (arith, rules .n-least)) in
+      let last : eqb (j + 1) (length words) ≡ eqb (2 * (j - 1)) (x .n - 4) = same-test (j + 1) (length words) (2 * (j - 1)) (x .n - 4)
+      (λ e. omega (arith, rules .n-even)) (λ e. omega (arith, rules .n-least)) in
       rw (pair-word (software x) (x .n) j (pairFrom 0) p m s (rules .n-even), ne-eqb j 0 (λ e. omega arith), last)
       (word-past (2 * (j - 1)) (omega (arith, rules .n-least)) ∙ rw s (pair-at i (x .first + 2 * (j - 1)) (2 * (j - 1)) (x .n) (rules .n-least) (omega arith) (omega (arith, rules .first-even)))))
       (decided (software x))

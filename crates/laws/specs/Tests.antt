@@ -14,6 +14,15 @@ pub decided : (b : Bool) → (b ≡ true) ⊎ (b ≡ false)
 decided true = inl refl
 decided false = inr refl
 
+-- whether something holds that can be decided, as a test; where it passes, it holds
+abbrev pub holds : {A : Type 0} → Dec A → Bool
+holds (yes a) = true
+holds (no o) = false
+
+pub holds-yes : {A : Type 0} (d : Dec A) → holds d ≡ true → A
+holds-yes (yes a) e = a
+holds-yes (no o) e = absurd (false≢true e)
+
 -- a test that cannot pass fails
 pub not-yes : (b : Bool) → (b ≡ true → ⊥) → b ≡ false
 not-yes true h = absurd (h refl)

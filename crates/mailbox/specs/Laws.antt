@@ -1,240 +1,246 @@
--- The mailbox's laws. Assumes nothing.
-use Prim.Native.Nat.{ℕ, suc, _≤_, _<_}
+-- The mailbox's laws: what a call does by where its judging ends, what an accepted one tells, and what it leaves. Assumes nothing.
+use Prim.Native.Nat.{ℕ, _≤_}
 use mathlib.Core.Path.{_≡_, refl, sym, ap, subst, _∙_}
+use mathlib.Core.Logic.{_⊎_, inl, inr, ⊎-elim}
 use mathlib.Core.Bool.{Bool, true, false, not, false≢true}
 use mathlib.Core.List.{List, [], _∷_, _++_}
 use lib.Dec.{eqb, ltb}
-use lib.ListN.{length, drop}
-use borrow.Author.Tests.{lt-ltb, le-ltb, ltb-false, leb-false, eqb-true, not-false}
+use lib.ListN.{length}
+use borrow.Author.Tests.{ltb-false, leb-false, eqb-true, eq-eqb, ne-eqb, not-false}
 use Rattle.laws.specs.Tests.{neither}
-use Rattle.laws.specs.Put.{Put}
-use Rattle.endian.specs.Endian.{bytes4}
-use Rattle.chksum.specs.Chksum.{closed}
-use Rattle.chksum.specs.Laws.{closed-is}
-use Rattle.laws.specs.Refusals.{lowest, numberOf, number-refuses, number-passes, accepted-tells, lowest-elim, testAt, Applies, not-applies, lowest-map, Accepted as Passed, lacks, ascendFrom, Given, lowest-tells}
+use Rattle.laws.specs.Refusals.{firstOf, numberOf, number-refuses, number-passes, accepted-tells, first-elim, first-map, testAt, refusalAt, Past, refused-at}
+use Rattle.laws.specs.Refusals.{past-all, Applies, not-applies, Accepted as Passed, lacks, ascendFrom}
+use Rattle.context.specs.State.{State, withCells, withContext, Outcome, outcome, refusing, telling}
 use Rattle.map.specs.declared.Header.{Header}
-use Rattle.map.specs.Map.{mapGood}
-use Rattle.drive.specs.Drive.{Whole, wholeArrays, driveTests, activeSlot, available, slotNumber, checkOf}
-use Rattle.drive.specs.declared.ActiveSlot.{ActiveSlot}
-use Rattle.drive.specs.declared.Check.the-variants.{Ready, Refused}
+use Rattle.drive.specs.Drive.{Whole, driveTests, checkOf}
+use Rattle.drive.specs.declared.Check.the-variants.{Ready, Refused as NotReady}
 use Rattle.drive.specs.Laws.{check-refused, check-passed}
-use Rattle.cache.specs.Cache.{Cache, lowestPlace, hasPlace, places}
+use Rattle.cache.specs.Cache.{cacheOf, lowestPlace}
 use Rattle.cache.specs.declared.Sought.the-variants.{Empty, Tag}
 use Rattle.erasure.specs.declared.Answer.{Answer}
-use Rattle.erasure.specs.declared.Answer.the-variants.{Ended as EndedAnswer, Cut, Refused as RefusedAnswer}
-use Rattle.erasure.specs.Erasure.{partitionTests, Erasable, uncutOf, left as leftBy}
+use Rattle.erasure.specs.declared.Answer.the-variants.{Ended, Cut, Refused as NotErased}
+use Rattle.erasure.specs.Erasure.{partitionTests, Erasable, uncutOf}
+use Rattle.engine.specs.declared.Order.{Order}
+use Rattle.engine.specs.declared.Order.the-variants.{Nothing, Load, Unload}
 use Rattle.codec.specs.declared.Command.{Command}
 use Rattle.codec.specs.declared.Command.the-variants.{Clkc, Klod, Kunl, Fers, Fsta, Unknown}
-use Rattle.codec.specs.Fields.{Cmd-timeout, Place, Short-pairs, First-short, Active-slot, Hek-available, requestFields, responseFields, numberAt, tagAt, commandOf}
+use Rattle.codec.specs.Fields.{known, Cmd-timeout, requestFields, responseFields, lengthOf, numberAt}
+use Rattle.codec.specs.Fields.{tagAt, commandOf, noNumbers, oneNumber, responseIn, leastRoom}
 use Rattle.codec.specs.Request.{requestTests}
-use Rattle.codec.specs.Laws.{response-reads}
-use Rattle.mailbox.specs.declared.Action.{Action}
-use Rattle.mailbox.specs.declared.Action.the-variants.{Refuse, Clear, Load, Unload, Ended, Status}
-use Rattle.mailbox.specs.declared.Reply.{Reply}
-use Rattle.mailbox.specs.Mailbox.{loadOf, unloadOf, loadTests, unloadTests, loadAction, unloadAction, Done, did, refuseWith, fersAction, fersOf, partitionIn, ownTests, ownDone, accepted, buffersBad, mailboxTests, doneOf, refusing, commandIn, cacheAfter, blockAfter, ownBytes, valueIn, responseAfter, replyOf, left, outcomeOf, mailboxOf, Fits, hekNumber}
+use Rattle.mailbox.specs.declared.Effect.{Effect}
+use Rattle.mailbox.specs.declared.Reply.the-variants.{Refused, Accepted}
+use Rattle.mailbox.specs.Mailbox.{effect, refused, loadOf, unloadOf, fersOf, partitionIn, accepted, loadTests, unloadTests}
+use Rattle.mailbox.specs.Mailbox.{loadEffect, unloadEffect, ownTests, ownDone, buffersBad, mailboxTests, doneOf, contextAfter, blockAfter}
+use Rattle.mailbox.specs.Mailbox.{Lent, lent, carriedOut, mailboxOf, loads, Fits}
 
--- ---- what KLOD and KUNL do, by their tests
+-- ---- what KLOD and KUNL do: which of their tests gives the number, by the test's place, or the effect at the values that were read
 
-module _ (cache : Cache) (request : List ℕ) {place tag timeout : ℕ} where
-  pub load-is : place ≡ lowestPlace cache Empty → tag ≡ tagAt (requestFields Klod) request → timeout ≡ numberAt (requestFields Klod) Cmd-timeout request → Load place tag timeout ≡ loadOf cache request
-  load-is p t o = rw (p, t, o)
+module _ (image request : List ℕ) (s : State) where
+  pub load-at : (k : ℕ) → Past k (loadTests image request s) → testAt (loadTests image request s) k ≡ true → refused (refusalAt (loadTests image request s) k) ≡ loadEffect image request s
+  unfolding loadEffect
+  load-at k = refused-at refused (loadOf (s .context) request) k (loadTests image request s)
 
-  pub unload-is : place ≡ lowestPlace cache (Tag tag) → tag ≡ tagAt (requestFields Kunl) request → timeout ≡ numberAt (requestFields Kunl) Cmd-timeout request → Unload place tag timeout ≡ unloadOf cache request
-  unload-is p t o = rw (p, t, o)
+  pub load-past : Past 3 (loadTests image request s) → {place tag timeout : ℕ} → place ≡ lowestPlace (cacheOf (s .context)) Empty
+      → tag ≡ tagAt (requestFields Klod) request → timeout ≡ numberAt (requestFields Klod) Cmd-timeout request
+      → effect Klod (Load place timeout) tag (oneNumber place) ≡ loadEffect image request s
+  unfolding loadEffect
+  load-past p l t o = rw (l, t, o) (past-all refused (loadOf (s .context) request) (loadTests image request s) p)
 
-module _ (image cells : List ℕ) (cache : Cache) (request : List ℕ) where
-  pub load-11 : available (activeSlot image cells) ≡ false → Refuse 11 ≡ loadAction image cells cache request
-  load-11 a = simp a
+module _ (context request : List ℕ) where
+  pub unload-at : (k : ℕ) → Past k (unloadTests context request) → testAt (unloadTests context request) k ≡ true → refused (refusalAt (unloadTests context request) k) ≡ unloadEffect context request
+  unfolding unloadEffect
+  unload-at k = refused-at refused (unloadOf context request) k (unloadTests context request)
 
-  module _ (a : available (activeSlot image cells) ≡ true) where
-    pub load-12 : hasPlace cache (Tag (tagAt (requestFields Klod) request)) ≡ true → Refuse 12 ≡ loadAction image cells cache request
-    load-12 h = simp (a, h)
+  pub unload-past : Past 1 (unloadTests context request) → {place tag timeout : ℕ} → place ≡ lowestPlace (cacheOf context) (Tag tag)
+      → tag ≡ tagAt (requestFields Kunl) request → timeout ≡ numberAt (requestFields Kunl) Cmd-timeout request
+      → effect Kunl (Unload place timeout) tag noNumbers ≡ unloadEffect context request
+  unfolding unloadEffect
+  unload-past p l t o = rw (l, t, o) (past-all refused (unloadOf context request) (unloadTests context request) p)
 
-    module _ (h : hasPlace cache (Tag (tagAt (requestFields Klod) request)) ≡ false) where
-      pub load-13 : places ≤ lowestPlace cache Empty → Refuse 13 ≡ loadAction image cells cache request
-      load-13 p = simp (a, h, le-ltb _ _ p)
+-- what they do leaves the cells
+module _ (image marks request : List ℕ) (s : State) {e : Effect} where
+  pub load-does : e ≡ loadEffect image request s → outcome e (s .cells) ≡ ownDone Klod image marks request s
+  unfolding loadEffect
+  load-does q = ap (λ (e : Effect). outcome e (s .cells)) q ∙ first-map (λ (e : Effect). outcome e (s .cells)) refused (loadTests image request s) (loadOf (s .context) request)
 
-      pub load-at : lowestPlace cache Empty < places → loadOf cache request ≡ loadAction image cells cache request
-      load-at p = simp (a, h, lt-ltb _ _ p)
-
-module _ (cache : Cache) (request : List ℕ) where
-  pub unload-14 : places ≤ lowestPlace cache (Tag (tagAt (requestFields Kunl) request)) → Refuse 14 ≡ unloadAction cache request
-  unload-14 p = simp (le-ltb _ _ p)
-
-  pub unload-at : lowestPlace cache (Tag (tagAt (requestFields Kunl) request)) < places → unloadOf cache request ≡ unloadAction cache request
-  unload-at p = simp (lt-ltb _ _ p)
-
--- what KLOD and KUNL do leaves the cells
-module _ (image cells marks : List ℕ) (cache : Cache) (request : List ℕ) {action : Action} where
-  pub load-does : action ≡ loadAction image cells cache request → did action cells ≡ ownDone Klod image cells marks cache request
-  load-does e = ap (λ (a : Action). did a cells) e ∙ lowest-map (λ (a : Action). did a cells) Refuse (loadTests image cells cache request) (loadOf cache request)
-
-  pub unload-does : action ≡ unloadAction cache request → did action cells ≡ ownDone Kunl image cells marks cache request
-  unload-does e = ap (λ (a : Action). did a cells) e ∙ lowest-map (λ (a : Action). did a cells) Refuse (unloadTests cache request) (unloadOf cache request)
+  pub unload-does : e ≡ unloadEffect (s .context) request → outcome e (s .cells) ≡ ownDone Kunl image marks request s
+  unfolding unloadEffect
+  unload-does q = ap (λ (e : Effect). outcome e (s .cells)) q ∙ first-map (λ (e : Effect). outcome e (s .cells)) refused (unloadTests (s .context) request) (unloadOf (s .context) request)
 
 -- ---- what FERS does, at the partition i that was read
 
-module _ (image cells marks : List ℕ) (cache : Cache) (request : List ℕ) {i : ℕ} (named : i ≡ partitionIn request) where
-  pub fers-refused : (n : ℕ) → n ≡ numberOf (partitionTests image i cache) → (n ≡ 0 → ⊥) → did (Refuse n) cells ≡ ownDone Fers image cells marks cache request
-  fers-refused n e o = rw (← named) (sym (number-refuses (refuseWith cells) [] (fersOf (uncutOf image cells marks i)) (partitionTests image i cache) n e o))
+module _ (image marks request : List ℕ) (s : State) {i : ℕ} (named : i ≡ partitionIn request) where
+  abbrev tests : List (Bool × ℕ)
+  tests = partitionTests image i (s .context)
 
-  module _ (none : 0 ≡ numberOf (partitionTests image i cache)) where
-    passed : Passed (partitionTests image i cache) (fersOf (uncutOf image cells marks i)) (lowest (refuseWith cells) (partitionTests image i cache) (fersOf (uncutOf image cells marks i)))
-    passed = number-passes (refuseWith cells) [] (fersOf (uncutOf image cells marks i)) (partitionTests image i cache) 0 refl none
+  abbrev erased : Outcome Effect (List ℕ)
+  erased = telling fersOf (uncutOf image (s .cells) marks i)
 
-    pub fers-erasable : Whole image cells → length marks ≡ length cells → Erasable image cells marks i
+  pub fers-refused : (n : ℕ) → n ≡ numberOf tests → (n ≡ 0 → ⊥) → outcome (refused n) (s .cells) ≡ ownDone Fers image marks request s
+  fers-refused n e o = rw (← named) (sym (number-refuses (refusing refused (s .cells)) [] erased tests n e o))
+
+  module _ (none : 0 ≡ numberOf tests) where
+    passed : Passed tests erased (firstOf (refusing refused (s .cells)) tests erased)
+    passed = number-passes (refusing refused (s .cells)) [] erased tests refl none
+
+    pub fers-erasable : Whole image (s .cells) → length marks ≡ length (s .cells) → Erasable image (s .cells) marks i
     fers-erasable whole long = record { whole = whole; marks-long = long; partition = leb-false _ _ (passed .none 0); may = not-false _ (passed .none 1) }
 
-    pub fers-does : {answer : Answer} {after : List ℕ} {action : Action} → leftBy answer after ≡ uncutOf image cells marks i → action ≡ fersAction answer → did action after ≡ ownDone Fers image cells marks cache request
-    fers-does {after = after} e q = ap (λ (a : Action). did a after) q ∙ ap fersOf e ∙ rw (← named) (sym (passed .is))
+    pub fers-does : {answer : Answer} {cells : List ℕ} {e : Effect} → outcome answer cells ≡ uncutOf image (s .cells) marks i → e ≡ fersOf answer → outcome e cells ≡ ownDone Fers image marks request s
+    fers-does {cells = cells} e q = ap (λ (e : Effect). outcome e cells) q ∙ ap (telling fersOf) e ∙ rw (← named) (sym (passed .is))
+
+-- it orders nothing, whatever its erasure answers
+pub fers-orders : (answer : Answer) → fersOf answer .order ≡ Nothing
+fers-orders (Ended short first burns) = refl
+fers-orders (Cut burns) = refl
+fers-orders (NotErased number burns) = refl
 
 -- ---- what a call does, by where its judging ends
 
-module _ (image cells marks : List ℕ) (cache : Cache) (code : ℕ) (request : List ℕ) (room block : ℕ) where
+module _ (image marks : List ℕ) (code : ℕ) (request : List ℕ) (room block : ℕ) (s : State) where
+  abbrev refuse : ℕ → Outcome Effect (List ℕ)
+  refuse = refusing refused (s .cells)
+
+  abbrev done : Outcome Effect (List ℕ)
+  done = accepted (commandOf code) image marks request s
+
   -- the tests after the drive's
-  buffer-tests : List (Bool × ℕ)
-  buffer-tests = (buffersBad room block, 2) ∷ (requestTests (commandOf code) code request ++ ownTests (commandOf code) image cells cache request)
+  abbrev laterTests : List (Bool × ℕ)
+  laterTests = (buffersBad room block, 2) ∷ (requestTests (commandOf code) code request ++ ownTests (commandOf code) image request s)
 
-  pub action-drive : (n : ℕ) → Refused n ≡ checkOf image cells marks → did (Refuse n) cells ≡ doneOf image cells marks cache code request room block
-  unfolding doneOf buffer-tests
-  action-drive n e = sym (check-refused (refuseWith cells) buffer-tests (accepted (commandOf code) image cells marks cache request) image cells marks n e)
+  pub judged-drive : (n : ℕ) → NotReady n ≡ checkOf image (s .cells) marks → outcome (refused n) (s .cells) ≡ doneOf image marks code request room block s
+  unfolding doneOf
+  judged-drive n e = sym (check-refused refuse laterTests done image (s .cells) marks n e)
 
-  module _ (header : Header) (e : Ready header ≡ checkOf image cells marks) where
-    past-drive : doneOf image cells marks cache code request room block ≡ lowest (refuseWith cells) buffer-tests (accepted (commandOf code) image cells marks cache request)
-    unfolding doneOf buffer-tests
-    past-drive = check-passed (refuseWith cells) buffer-tests (accepted (commandOf code) image cells marks cache request) image cells marks header e
+  module _ {header : Header} (e : Ready header ≡ checkOf image (s .cells) marks) where
+    past-drive : doneOf image marks code request room block s ≡ firstOf refuse laterTests done
+    unfolding doneOf
+    past-drive = check-passed refuse laterTests done image (s .cells) marks header e
 
-    pub action-buffers : buffersBad room block ≡ true → did (Refuse 2) cells ≡ doneOf image cells marks cache code request room block
-    unfolding buffer-tests
-    action-buffers b = sym (past-drive ∙ simp b)
+    pub judged-buffers : buffersBad room block ≡ true → outcome (refused 2) (s .cells) ≡ doneOf image marks code request room block s
+    judged-buffers b = sym (past-drive ∙ simp b)
 
     module _ (b : buffersBad room block ≡ false) where
-      past-buffers : doneOf image cells marks cache code request room block ≡ lowest (refuseWith cells) (requestTests (commandOf code) code request ++ ownTests (commandOf code) image cells cache request) (accepted (commandOf code) image cells marks cache request)
-      unfolding buffer-tests
+      past-buffers : doneOf image marks code request room block s ≡ firstOf refuse (requestTests (commandOf code) code request ++ ownTests (commandOf code) image request s) done
       past-buffers = past-drive ∙ simp b
 
       module _ (command : Command) (named : command ≡ commandOf code) where
-        pub action-request : (n : ℕ) → n ≡ numberOf (requestTests command code request) → (n ≡ 0 → ⊥) → did (Refuse n) cells ≡ doneOf image cells marks cache code request room block
-        action-request n q o =
-            sym (past-buffers ∙ rw (← named) (number-refuses (refuseWith cells) (ownTests command image cells cache request) (accepted command image cells marks cache request) (requestTests command code request) n q o))
+        pub judged-request : (n : ℕ) → n ≡ numberOf (requestTests command code request) → (n ≡ 0 → ⊥) → outcome (refused n) (s .cells) ≡ doneOf image marks code request room block s
+        judged-request n q o =
+            sym (past-buffers ∙ rw (← named) (number-refuses refuse (ownTests command image request s) (accepted command image marks request s) (requestTests command code request) n q o))
 
-        pub action-own : (r : Done) → 0 ≡ numberOf (requestTests command code request) → r ≡ ownDone command image cells marks cache request → r ≡ doneOf image cells marks cache code request room block
+        pub judged-own : (d : Outcome Effect (List ℕ)) → 0 ≡ numberOf (requestTests command code request) → d ≡ ownDone command image marks request s → d ≡ doneOf image marks code request room block s
         unfolding requestTests
-        action-own r z q =
-            q ∙ sym (past-buffers ∙ rw (← named) (number-passes (refuseWith cells) (ownTests command image cells cache request) (accepted command image cells marks cache request) (requestTests command code request) 0 refl z .is))
+        judged-own d z q =
+            q ∙ sym (past-buffers ∙ rw (← named) (number-passes refuse (ownTests command image request s) (accepted command image marks request s) (requestTests command code request) refl z .is))
 
 -- ---- what an accepted call tells
 
-refuses : (n : ℕ) → refusing (Refuse n) ≡ true
-refuses n = refl
+-- the numbers of a call's tests never fall, none is 0, and none is 15
+pub record Numbered (tests : List (Bool × ℕ)) : Type 0 where
+  pub ascend : ascendFrom 1 tests ≡ true
+  pub not-0 : lacks 0 tests ≡ true
+  pub not-15 : lacks 15 tests ≡ true
 
-fers-kept : (answer : Answer) → refusing (fersAction answer) ≡ false → commandIn (fersAction answer) ≡ Fers
-fers-kept (EndedAnswer short first burns) r = refl
-fers-kept (RefusedAnswer number burns) r = absurd (false≢true (sym r))
-fers-kept (Cut burns) r = absurd (false≢true (sym r))
-
-command-kept : (command : Command) (image cells marks : List ℕ) (cache : Cache) (request : List ℕ) → refusing (accepted command image cells marks cache request .action) ≡ false → commandIn (accepted command image cells marks cache request .action) ≡ command
-command-kept Clkc image cells marks cache request r = refl
-command-kept Klod image cells marks cache request r = refl
-command-kept Kunl image cells marks cache request r = refl
-command-kept Fers image cells marks cache request r = fers-kept (uncutOf image cells marks (partitionIn request) .answer) r
-command-kept Fsta image cells marks cache request r = refl
-command-kept Unknown image cells marks cache request r = absurd (false≢true (sym r))
-
--- the buffers are long enough, and the request has its command's length
-pub record Carried (action : Action) (request response block : List ℕ) : Type 0 where
-  pub fits : Fits action request block
-  pub room : 20 ≤ length response
-
-pub carried : (image cells marks : List ℕ) (cache : Cache) (code : ℕ) (request response block : List ℕ) (action : Action) (after : List ℕ) → did action after ≡ doneOf image cells marks cache code request (length response) (length block) → refusing action ≡ false → Carried action request response block
-unfolding doneOf requestTests
-carried image cells marks cache code request response block action after e r =
-    let command = commandOf code in
-    let told = accepted-tells (refuseWith cells) (λ (d : Done). refusing (d .action)) refuses (mailboxTests image cells marks cache code request (length response) (length block)) (accepted command image cells marks cache request) (ap (λ (d : Done). refusing (d .action)) (sym e) ∙ r) in
-    let is : action ≡ accepted command image cells marks cache request .action = ap (λ (d : Done). d .action) (e ∙ told .is) in
-    let buffers = neither (not (eqb (length block) 128)) (ltb (length response) 20) (told .none 2) in
-    let named : commandIn action ≡ command = ap commandIn is ∙ command-kept command image cells marks cache request (rw is at r) in
-    record {
-      fits = record { block-long = eqb-true _ _ (not-false _ (buffers .0)); request-long = rw named (eqb-true _ _ (not-false _ (told .none 4))) };
-      room = ltb-false _ _ (buffers .1);
-    }
-
--- ---- the response, by the fields that were written
-
-pub status-bytes : (slot : ActiveSlot) {number hek : ℕ} → number ≡ slotNumber slot → hek ≡ hekNumber slot → bytes4 number ++ bytes4 hek ≡ ownBytes (Status slot)
-status-bytes slot p q = rw (p, q)
-
-pub responded : (action : Action) {before middle after : List ℕ} {n : ℕ} → refusing action ≡ false → Put 4 (bytes4 0 ++ bytes4 0 ++ ownBytes action) before middle n → after ≡ closed n middle → after ≡ responseAfter action before
-responded (Refuse n) r p q = absurd (false≢true (sym r))
-responded (Clear timeout) r p q = closed-is p q ∙ rw (p .is-next)
-responded (Load place tag timeout) r p q = closed-is p q ∙ rw (p .is-next)
-responded (Unload place tag timeout) r p q = closed-is p q ∙ rw (p .is-next)
-responded (Ended short first) r p q = closed-is p q ∙ rw (p .is-next)
-responded (Status slot) r p q = closed-is p q ∙ rw (p .is-next)
-
--- a host that reads the response by its list finds what is meant
-pub place-reads : (place tag timeout : ℕ) (response : List ℕ) → numberAt (responseFields Klod) Place (responseAfter (Load place tag timeout) response) ≡ place
-place-reads place tag timeout response = response-reads (valueIn (Load place tag timeout)) Klod Place (drop 16 response) refl refl refl
-
-pub ended-reads : (short first : ℕ) (response : List ℕ) → (numberAt (responseFields Fers) Short-pairs (responseAfter (Ended short first) response) ≡ short) × (numberAt (responseFields Fers) First-short (responseAfter (Ended short first) response) ≡ first)
-ended-reads short first response =
-    (response-reads (valueIn (Ended short first)) Fers Short-pairs (drop 20 response) refl refl refl, response-reads (valueIn (Ended short first)) Fers First-short (drop 20 response) refl refl refl)
-
-pub slot-reads : (slot : ActiveSlot) (response : List ℕ) → (numberAt (responseFields Fsta) Active-slot (responseAfter (Status slot) response) ≡ slotNumber slot) × (numberAt (responseFields Fsta) Hek-available (responseAfter (Status slot) response) ≡ hekNumber slot)
-slot-reads slot response =
-    (response-reads (valueIn (Status slot)) Fsta Active-slot (drop 20 response) refl refl refl, response-reads (valueIn (Status slot)) Fsta Hek-available (drop 20 response) refl refl refl)
-
--- ---- what a call leaves
-
-still : (action : Action) {reply : Reply} (cells request response block : List ℕ) (cache : Cache) → reply ≡ replyOf action → refusing action ≡ true → left reply cells cache response block ≡ outcomeOf (did action cells) cache request response block
-still (Refuse n) cells request response block cache e r = rw e
-still (Clear timeout) cells request response block cache e r = absurd (false≢true r)
-still (Load place tag timeout) cells request response block cache e r = absurd (false≢true r)
-still (Unload place tag timeout) cells request response block cache e r = absurd (false≢true r)
-still (Ended short first) cells request response block cache e r = absurd (false≢true r)
-still (Status slot) cells request response block cache e r = absurd (false≢true r)
-
-module _ (image cells marks : List ℕ) (cache : Cache) (code : ℕ) (request response block : List ℕ) (action : Action) (after : List ℕ) (e : did action after ≡ doneOf image cells marks cache code request (length response) (length block)) {reply : Reply} (said : reply ≡ replyOf action) where
-  -- a refusal leaves everything as it was, but for the cells that FERS has burned before 15
-  pub refused-left : refusing action ≡ true → left reply after cache response block ≡ mailboxOf image cells marks cache code request response block
-  refused-left r = still action after request response block cache said r ∙ ap (λ (d : Done). outcomeOf d cache request response block) e
-
-  pub carried-left : {cache′ : Cache} {response′ block′ : List ℕ} → cache′ ≡ cacheAfter action cache → block′ ≡ blockAfter action request block → response′ ≡ responseAfter action response → left reply after cache′ response′ block′ ≡ mailboxOf image cells marks cache code request response block
-  carried-left p q s = rw (said, p, q, s) (ap (λ (d : Done). outcomeOf d cache request response block) e)
-
--- ---- "the lowest that applies is given, and none is given otherwise"
-
--- the numbers of a call's tests never fall, and 15 is none of them
-ascends : (image cells marks : List ℕ) (cache : Cache) (command : Command) (code : ℕ) (request : List ℕ) (bad : Bool) → let tests = driveTests image cells marks ++ ((bad, 2) ∷ (requestTests command code request ++ ownTests command image cells cache request)) in (ascendFrom 1 tests ≡ true) × (lacks 15 tests ≡ true)
+pub numbered-by : (command : Command) (image marks : List ℕ) (code : ℕ) (request : List ℕ) (bad : Bool) (s : State)
+    → Numbered (driveTests image (s .cells) marks ++ ((bad, 2) ∷ (requestTests command code request ++ ownTests command image request s)))
 unfolding requestTests
-ascends image cells marks cache Clkc code request bad = (refl, refl)
-ascends image cells marks cache Klod code request bad = (refl, refl)
-ascends image cells marks cache Kunl code request bad = (refl, refl)
-ascends image cells marks cache Fers code request bad = (refl, refl)
-ascends image cells marks cache Fsta code request bad = (refl, refl)
-ascends image cells marks cache Unknown code request bad = (refl, refl)
+numbered-by Clkc image marks code request bad s = record { ascend = refl; not-0 = refl; not-15 = refl }
+numbered-by Klod image marks code request bad s = record { ascend = refl; not-0 = refl; not-15 = refl }
+numbered-by Kunl image marks code request bad s = record { ascend = refl; not-0 = refl; not-15 = refl }
+numbered-by Fers image marks code request bad s = record { ascend = refl; not-0 = refl; not-15 = refl }
+numbered-by Fsta image marks code request bad s = record { ascend = refl; not-0 = refl; not-15 = refl }
+numbered-by Unknown image marks code request bad s = record { ascend = refl; not-0 = refl; not-15 = refl }
 
-pub mailbox-lowest : (image cells marks : List ℕ) (cache : Cache) (code : ℕ) (request : List ℕ) (room block : ℕ) → Given (refuseWith cells) (mailboxTests image cells marks cache code request room block) (accepted (commandOf code) image cells marks cache request) (doneOf image cells marks cache code request room block)
-unfolding doneOf
-mailbox-lowest image cells marks cache code request room block =
-    lowest-tells (refuseWith cells) (accepted (commandOf code) image cells marks cache request) 1 (mailboxTests image cells marks cache code request room block) (ascends image cells marks cache (commandOf code) code request (buffersBad room block) .0)
+-- only KLOD orders a load
+pub load-only : (command : Command) (image marks request : List ℕ) (s : State) → loads (accepted command image marks request s .told .order) ≡ true → command ≡ Klod
+load-only Clkc image marks request s e = absurd (false≢true e)
+load-only Klod image marks request s e = refl
+load-only Kunl image marks request s e = absurd (false≢true e)
+load-only Fers image marks request s e = absurd (false≢true (rw (fers-orders (uncutOf image (s .cells) marks (partitionIn request) .told)) at e))
+load-only Fsta image marks request s e = absurd (false≢true e)
+load-only Unknown image marks request s e = absurd (false≢true e)
 
--- ---- FERS leaves the cache
+-- FERS alone burns, and can be refused past the tests
+pub fers-or-plain : (command : Command) (image marks request : List ℕ) (s : State) → known command ≡ true
+    → (command ≡ Fers) ⊎ ((accepted command image marks request s .told .refusal ≡ 0) × (accepted command image marks request s .after ≡ s .cells))
+fers-or-plain Clkc image marks request s k = inr (refl, refl)
+fers-or-plain Klod image marks request s k = inr (refl, refl)
+fers-or-plain Kunl image marks request s k = inr (refl, refl)
+fers-or-plain Fers image marks request s k = inl refl
+fers-or-plain Fsta image marks request s k = inr (refl, refl)
+fers-or-plain Unknown image marks request s k = absurd (false≢true k)
 
-pub fers-keeps : (answer : Answer) (cache : Cache) → cacheAfter (fersAction answer) cache ≡ cache
-fers-keeps (EndedAnswer short first burns) cache = refl
-fers-keeps (Cut burns) cache = refl
-fers-keeps (RefusedAnswer number burns) cache = refl
+-- an effect with a number is that refusal, and nothing else
+abbrev OnlyRefused : Effect → Type 0
+OnlyRefused e = (e .refusal ≡ 0 → ⊥) → e ≡ refused (e .refusal)
 
--- ---- what holds of every refusal by the tests, none of which is 15, and of what an accepted call does, holds of what is done
+fers-refuses : (answer : Answer) → OnlyRefused (fersOf answer)
+fers-refuses (Ended short first burns) o = absurd (o refl)
+fers-refuses (Cut burns) o = refl
+fers-refuses (NotErased number burns) o = refl
 
-pub mailbox-elim : (image cells marks : List ℕ) (cache : Cache) (code : ℕ) (request : List ℕ) (room block : ℕ) (P : Done → Type 0) → ((n : ℕ) → (n ≡ 15 → ⊥) → P (refuseWith cells n))
-    → (mapGood image ≡ true → wholeArrays image cells marks ≡ true → ((k : ℕ) → testAt (ownTests (commandOf code) image cells cache request) k ≡ false) → P (accepted (commandOf code) image cells marks cache request))
-    → P (doneOf image cells marks cache code request room block)
-unfolding doneOf requestTests
-mailbox-elim image cells marks cache code request room block P refused carried =
-    let tests = mailboxTests image cells marks cache code request room block in
-    lowest-elim P (refuseWith cells) tests (accepted (commandOf code) image cells marks cache request)
-    (λ n a. refused n (λ e. not-applies 15 tests (ascends image cells marks cache (commandOf code) code request (buffersBad room block) .1) (subst (λ (m : ℕ). Applies m tests) e a)))
-    -- two tests of the drive, one of the buffers, four of the request, then the command's own
-    (λ none. carried (not-false _ (none 0)) (not-false _ (none 1)) (λ k. none (suc (suc (suc (suc (suc (suc (suc k)))))))))
+accepted-refuses : (command : Command) (image marks request : List ℕ) (s : State) → known command ≡ true → OnlyRefused (accepted command image marks request s .told)
+accepted-refuses command image marks request s k =
+    ⊎-elim
+    (λ (e : command ≡ Fers). rw e (fers-refuses (uncutOf image (s .cells) marks (partitionIn request) .told)))
+    (λ plain o. absurd (o (plain .0)))
+    (fers-or-plain command image marks request s k)
+
+still : (n : ℕ) → (n ≡ 0 → ⊥) → (cells request : List ℕ) (l : Lent)
+    → outcome (Refused n) (lent (withCells cells (l .state)) (l .response) (l .block)) ≡ carriedOut request l (outcome (refused n) cells)
+still n o cells request l = rw (ne-eqb n 0 o)
+
+-- the buffers are long enough, and the request of a load has its length
+pub record Carried (order : Order) (request response block : List ℕ) : Type 0 where
+  pub fits : Fits order request block
+  pub room : leastRoom ≤ length response
+
+module _ (image marks : List ℕ) (code : ℕ) (request : List ℕ) (l : Lent) {e : Effect} {cells : List ℕ}
+    (d : outcome e cells ≡ doneOf image marks code request (length (l .response)) (length (l .block)) (l .state)) where
+  abbrev allTests : List (Bool × ℕ)
+  allTests = mailboxTests image marks code request (length (l .response)) (length (l .block)) (l .state)
+
+  numbered : Numbered allTests
+  numbered = numbered-by (commandOf code) image marks code request (buffersBad (length (l .response)) (length (l .block))) (l .state)
+
+  pub carried : e .refusal ≡ 0 → Carried (e .order) request (l .response) (l .block)
+  unfolding doneOf requestTests
+  carried z =
+      let told = accepted-tells (refusing refused (l .state .cells)) (λ (o : Outcome Effect (List ℕ)). not (eqb (o .told .refusal) 0)) allTests
+      (accepted (commandOf code) image marks request (l .state))
+      (λ n a. ap not (ne-eqb n 0 (λ q. not-applies 0 allTests (numbered .not-0) (subst (λ (m : ℕ). Applies m allTests) q a))))
+      (ap (λ (o : Outcome Effect (List ℕ)). not (eqb (o .told .refusal) 0)) (sym d) ∙ ap not (eq-eqb _ _ z)) in
+      let is : e .order ≡ accepted (commandOf code) image marks request (l .state) .told .order = ap (λ (o : Outcome Effect (List ℕ)). o .told .order) (d ∙ told .is) in
+      let buffers = neither (not (eqb (length (l .block)) 128)) (ltb (length (l .response)) leastRoom) (told .none 2) in
+      record {
+        fits = record {
+          block-long = eqb-true _ _ (not-false _ (buffers .0));
+          request-long = λ y.
+              subst (λ (command : Command). length request ≡ lengthOf (requestFields command)) (load-only (commandOf code) image marks request (l .state) (rw is at y))
+              (eqb-true _ _ (not-false _ (told .none 4)));
+        };
+        room = ltb-false _ _ (buffers .1);
+      }
+
+  -- ---- what a call leaves
+
+  -- an effect with a number is that refusal, and orders nothing
+  pub is-refused : OnlyRefused e
+  unfolding doneOf requestTests
+  is-refused =
+      subst (λ (x : Outcome Effect (List ℕ)). OnlyRefused (x .told)) (sym d)
+      (first-elim (λ (x : Outcome Effect (List ℕ)). OnlyRefused (x .told)) (refusing refused (l .state .cells)) allTests (accepted (commandOf code) image marks request (l .state))
+      (λ n _ _. refl)
+      (λ none. accepted-refuses (commandOf code) image marks request (l .state) (not-false _ (none 3))))
+
+  -- a refusal leaves everything as it was, but for the cells that FERS has burned before 15
+  pub refused-left : (e .refusal ≡ 0 → ⊥) → outcome (Refused (e .refusal)) (lent (withCells cells (l .state)) (l .response) (l .block)) ≡ mailboxOf image marks code request l
+  refused-left o = still (e .refusal) o cells request l ∙ ap (λ (x : Effect). carriedOut request l (outcome x cells)) (sym (is-refused o)) ∙ ap (carriedOut request l) d
+
+  -- else each part is as the effect leaves it
+  pub carried-left : e .refusal ≡ 0 → {context response block : List ℕ} {n : ℕ} → context ≡ contextAfter e (l .state .context)
+      → block ≡ blockAfter (e .order) (e .tag) request (l .block)
+      → (n ≡ lengthOf (responseFields (e .command) (e .numbers))) × (response ≡ responseIn (e .command) (e .numbers) (l .response))
+      → outcome (Accepted n (e .order)) (lent (withContext context (withCells cells (l .state))) response block) ≡ mailboxOf image marks code request l
+  carried-left z p q r = rw (p, q, r .0, r .1) (sym (simp (eq-eqb _ _ z)) ∙ ap (carriedOut request l) d)

@@ -1,3 +1,4 @@
 pub mod Mailbox
 pub mod Laws
+pub mod Told
 pub mod Vectors

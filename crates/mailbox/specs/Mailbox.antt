@@ -4,229 +4,202 @@ use mathlib.Core.Path.{_≡_}
 use mathlib.Core.Bool.{Bool, true, false, cond, not, _||_}
 use mathlib.Core.List.{List, [], _∷_, _++_}
 use lib.Dec.{eqb, ltb}
-use lib.ListN.{length, drop}
-use Rattle.laws.specs.Refusals.{lowest}
+use lib.ListN.{length}
+use Rattle.laws.specs.Refusals.{firstOf}
+use Rattle.context.specs.State.{State, withCells, withContext, Outcome, outcome, refusing, telling}
 use Rattle.drive.specs.Drive.{driveTests, activeSlot, slotNumber, available}
 use Rattle.drive.specs.declared.ActiveSlot.{ActiveSlot}
-use Rattle.cache.specs.Cache.{Cache, lowestPlace, hasPlace, loaded, freed, empty}
+use Rattle.cache.specs.Cache.{cacheOf, lowestPlace, hasPlace, loaded, freed, emptied}
 use Rattle.cache.specs.declared.Sought.the-variants.{Empty, Tag}
 use Rattle.erasure.specs.declared.Answer.{Answer}
-use Rattle.erasure.specs.declared.Answer.the-variants.{Ended as EndedAnswer, Cut, Refused as RefusedAnswer}
-use Rattle.erasure.specs.Erasure.{partitionTests, uncutOf, Outcome as Erasure}
+use Rattle.erasure.specs.declared.Answer.the-variants.{Ended, Cut, Refused as NotErased}
+use Rattle.erasure.specs.Erasure.{partitionTests, uncutOf}
+use Rattle.codec.specs.declared.Numbers.{Numbers}
 use Rattle.codec.specs.declared.Command.{Command}
 use Rattle.codec.specs.declared.Command.the-variants.{Clkc, Klod, Kunl, Fers, Fsta, Unknown}
-use Rattle.codec.specs.Fields.{commandOf, Field, same, Cmd-timeout, Partition, Place, Short-pairs, First-short, Active-slot, Hek-available, requestFields, responseFields, lengthOf, numberAt, tagAt, mekAt, message, u32Bytes, responseOf}
+use Rattle.codec.specs.Fields.{commandOf, Cmd-timeout, Partition, requestFields, responseFields, lengthOf, numberAt, tagAt, mekAt, noNumbers, oneNumber, twoNumbers, responseIn}
+use Rattle.codec.specs.Fields.{leastRoom}
 use Rattle.codec.specs.Request.{requestTests}
 use Rattle.engine.specs.Engine.{engineBlock}
-use Rattle.engine.specs.declared.Order.the-variants.{Nothing, Clear as ClearOrder, Load as LoadOrder, Unload as UnloadOrder}
-use Rattle.mailbox.specs.declared.Action.{Action}
-use Rattle.mailbox.specs.declared.Action.the-variants.{Refuse, Clear, Load, Unload, Ended, Status}
+use Rattle.engine.specs.declared.Order.{Order}
+use Rattle.engine.specs.declared.Order.the-variants.{Nothing, Clear, Load, Unload}
+use Rattle.mailbox.specs.declared.Effect.{Effect}
 use Rattle.mailbox.specs.declared.Reply.{Reply}
 use Rattle.mailbox.specs.declared.Reply.the-variants.{Refused, Accepted}
 
--- ---- what a command does where no refusal of the lists below applies
+-- ---- the effect of a command: what the engine is ordered, with the tag, and the numbers of the response
+
+abbrev pub effect : Command → Order → (tag : ℕ) → Numbers → Effect
+effect command order tag numbers = record { refusal = 0; command = command; order = order; tag = tag; numbers = numbers }
+
+-- "the engine order is none"
+abbrev pub refused : (number : ℕ) → Effect
+refused number = record { refusal = number; command = Unknown; order = Nothing; tag = 0; numbers = noNumbers }
 
 -- CLKC: "clear" with the timeout
-abbrev pub clearOf : (request : List ℕ) → Action
-clearOf request = Clear (numberAt (requestFields Clkc) Cmd-timeout request)
+abbrev pub clearOf : (request : List ℕ) → Effect
+clearOf request = effect Clkc (Clear (numberAt (requestFields Clkc) Cmd-timeout request)) 0 noNumbers
 
--- "A load takes the lowest empty place"
-abbrev pub loadOf : Cache → (request : List ℕ) → Action
-loadOf cache request = Load (lowestPlace cache Empty) (tagAt (requestFields Klod) request) (numberAt (requestFields Klod) Cmd-timeout request)
+-- "A load takes the lowest empty place"; its response is the place
+abbrev pub loadOf : (context request : List ℕ) → Effect
+loadOf context request =
+    let place : ℕ = lowestPlace (cacheOf context) Empty in
+    effect Klod (Load place (numberAt (requestFields Klod) Cmd-timeout request)) (tagAt (requestFields Klod) request) (oneNumber place)
 
 -- "KUNL frees the lowest place that holds its tag"
-abbrev pub unloadOf : Cache → (request : List ℕ) → Action
-unloadOf cache request = Unload (lowestPlace cache (Tag (tagAt (requestFields Kunl) request))) (tagAt (requestFields Kunl) request) (numberAt (requestFields Kunl) Cmd-timeout request)
+abbrev pub unloadOf : (context request : List ℕ) → Effect
+unloadOf context request =
+    let tag : ℕ = tagAt (requestFields Kunl) request in
+    effect Kunl (Unload (lowestPlace (cacheOf context) (Tag tag)) (numberAt (requestFields Kunl) Cmd-timeout request)) tag noNumbers
 
--- an action, and the cells that it leaves
-pub record Done : Type 0 where
-  pub action : Action
-  pub cells : List ℕ
-
--- what was done
-abbrev pub did : Action → (cells : List ℕ) → Done
-did action cells = record { action = action; cells = cells }
-
--- a refusal leaves the cells
-abbrev pub refuseWith : (cells : List ℕ) (number : ℕ) → Done
-refuseWith cells number = did (Refuse number) cells
-
--- FERS, by what its erasure answers: short pairs and first short cell, or refusal 15. It is not cut: no order reaches its cut
-abbrev pub fersAction : Answer → Action
-fersAction (EndedAnswer short first burns) = Ended short first
-fersAction (RefusedAnswer number burns) = Refuse number
-fersAction (Cut burns) = Refuse 15
-
--- 15 leaves the burned indicator
-abbrev pub fersOf : Erasure → Done
-fersOf erasure = did (fersAction (erasure .answer)) (erasure .cells)
-
--- the partition that a request of FERS names
-abbrev pub partitionIn : (request : List ℕ) → ℕ
-partitionIn request = numberAt (requestFields Fers) Partition request
-
--- only FERS burns; a code that is unknown is refused before
-abbrev pub accepted : Command → (image cells marks : List ℕ) → Cache → (request : List ℕ) → Done
-accepted Clkc image cells marks cache request = did (clearOf request) cells
-accepted Klod image cells marks cache request = did (loadOf cache request) cells
-accepted Kunl image cells marks cache request = did (unloadOf cache request) cells
-accepted Fers image cells marks cache request = fersOf (uncutOf image cells marks (partitionIn request))
-accepted Fsta image cells marks cache request = did (Status (activeSlot image cells)) cells
-accepted Unknown image cells marks cache request = refuseWith cells 3
-
--- ---- refusals
-
--- 11 "KLOD, HEK not available", 12 "KLOD, tag held already", 13 "KLOD, no empty place"
-abbrev pub loadTests : (image cells : List ℕ) → Cache → (request : List ℕ) → List (Bool × ℕ)
-loadTests image cells cache request =
-    (not (available (activeSlot image cells)), 11)
-    ∷ (hasPlace cache (Tag (tagAt (requestFields Klod) request)), 12)
-    ∷ (not (hasPlace cache Empty), 13)
-    ∷ []
-
--- 14 "KUNL, tag not held"
-abbrev pub unloadTests : Cache → (request : List ℕ) → List (Bool × ℕ)
-unloadTests cache request =
-    (not (hasPlace cache (Tag (tagAt (requestFields Kunl) request))), 14)
-    ∷ []
-
--- what KLOD does by its own refusals
-abbrev pub loadAction : (image cells : List ℕ) → Cache → (request : List ℕ) → Action
-loadAction image cells cache request = lowest Refuse (loadTests image cells cache request) (loadOf cache request)
-
--- and KUNL
-abbrev pub unloadAction : Cache → (request : List ℕ) → Action
-unloadAction cache request = lowest Refuse (unloadTests cache request) (unloadOf cache request)
-
--- the refusals of a command by itself
-abbrev pub ownTests : Command → (image cells : List ℕ) → Cache → (request : List ℕ) → List (Bool × ℕ)
-ownTests Clkc image cells cache request = []
-ownTests Klod image cells cache request = loadTests image cells cache request
-ownTests Kunl image cells cache request = unloadTests cache request
-ownTests Fers image cells cache request = partitionTests image (partitionIn request) cache
-ownTests Fsta image cells cache request = []
-ownTests Unknown image cells cache request = []
-
--- what a command does by its own refusals
-abbrev pub ownDone : Command → (image cells marks : List ℕ) → Cache → (request : List ℕ) → Done
-ownDone command image cells marks cache request = lowest (refuseWith cells) (ownTests command image cells cache request) (accepted command image cells marks cache request)
-
--- 2, "for the mailbox also": "block not 128 or response buffer under 20 bytes"
-abbrev pub buffersBad : (room block : ℕ) → Bool
-buffersBad room block = not (eqb block 128) || ltb room 20
-
--- all refusals of a call: 1 and 2 for the drive, 2 for the buffers, 3 to 6 for the request, 7 to 14 for the command; FERS's 15 is its
--- run's, above
-abbrev pub mailboxTests : (image cells marks : List ℕ) → Cache → (code : ℕ) (request : List ℕ) (room block : ℕ) → List (Bool × ℕ)
-mailboxTests image cells marks cache code request room block =
-    driveTests image cells marks
-    ++ ((buffersBad room block, 2)
-    ∷ (requestTests (commandOf code) code request
-    ++ ownTests (commandOf code) image cells cache request))
-
--- "the lowest that applies is given, and none is given otherwise"
-unfoldable pub doneOf : (image cells marks : List ℕ) → Cache → (code : ℕ) (request : List ℕ) (room block : ℕ) → Done
-doneOf image cells marks cache code request room block =
-    lowest (refuseWith cells) (mailboxTests image cells marks cache code request room block) (accepted (commandOf code) image cells marks cache request)
-
--- ---- what an action leaves, the table's columns
-
--- an action that refuses
-abbrev pub refusing : Action → Bool
-refusing (Refuse n) = true
-refusing (Clear timeout) = false
-refusing (Load place tag timeout) = false
-refusing (Unload place tag timeout) = false
-refusing (Ended short first) = false
-refusing (Status slot) = false
-
--- the command whose row of the table an action is
-abbrev pub commandIn : Action → Command
-commandIn (Refuse n) = Unknown
-commandIn (Clear timeout) = Clkc
-commandIn (Load place tag timeout) = Klod
-commandIn (Unload place tag timeout) = Kunl
-commandIn (Ended short first) = Fers
-commandIn (Status slot) = Fsta
-
--- the cache: "CLKC empties it", a load takes its place, an unload frees it
-abbrev pub cacheAfter : Action → Cache → Cache
-cacheAfter (Refuse n) cache = cache
-cacheAfter (Clear timeout) cache = empty
-cacheAfter (Load place tag timeout) cache = loaded place tag cache
-cacheAfter (Unload place tag timeout) cache = freed place cache
-cacheAfter (Ended short first) cache = cache
-cacheAfter (Status slot) cache = cache
-
--- the column "engine": "clear; block all zero", "load; MEK, METD = tag .., AUX zero", "unload; as load with MEK zero"; "Where the
--- engine column says none, the block is unchanged"
-abbrev pub blockAfter : Action → (request block : List ℕ) → List ℕ
-blockAfter (Refuse n) request block = block
-blockAfter (Clear timeout) request block = engineBlock [] 0
-blockAfter (Load place tag timeout) request block = engineBlock (mekAt (requestFields Klod) request) tag
-blockAfter (Unload place tag timeout) request block = engineBlock [] tag
-blockAfter (Ended short first) request block = block
-blockAfter (Status slot) request block = block
+-- FERS, by what its erasure answers: "short pairs, first short cell", or refusal 15. It is not cut: no order reaches its cut
+abbrev pub fersOf : Answer → Effect
+fersOf (Ended short first burns) = effect Fers Nothing 0 (twoNumbers short first)
+fersOf (NotErased number burns) = refused number
+fersOf (Cut burns) = refused 15
 
 -- "HEK available 1 or 0"
 abbrev pub hekNumber : ActiveSlot → ℕ
 hekNumber slot = cond (available slot) 1 0
 
--- what a field of the response holds: the place of a load, an erasure's short pairs and first short cell, the active slot and its HEK;
--- "fips_status (0), reserved (0)"
-abbrev pub valueIn : Action → Field → ℕ
-valueIn (Refuse n) field = 0
-valueIn (Clear timeout) field = 0
-valueIn (Load place tag timeout) field = cond (same field Place) place 0
-valueIn (Unload place tag timeout) field = 0
-valueIn (Ended short first) field = cond (same field Short-pairs) short (cond (same field First-short) first 0)
-valueIn (Status slot) field = cond (same field Active-slot) (slotNumber slot) (cond (same field Hek-available) (hekNumber slot) 0)
+-- FSTA: "active slot's partition or 0xFFFFFFFF, HEK available 1 or 0"
+abbrev pub statusOf : ActiveSlot → Effect
+statusOf slot = effect Fsta Nothing 0 (twoNumbers (slotNumber slot) (hekNumber slot))
 
--- the bytes of the fields after reserved
-abbrev pub ownBytes : Action → List ℕ
-ownBytes action = message (u32Bytes (valueIn action)) (drop 3 (responseFields (commandIn action)))
+-- the partition that a request of FERS names
+abbrev pub partitionIn : (request : List ℕ) → ℕ
+partitionIn request = numberAt (requestFields Fers) Partition request
 
--- the response; "Response bytes past the response keep their values"
-abbrev pub responseAfter : Action → (response : List ℕ) → List ℕ
-responseAfter action response =
-    cond (refusing action) response
-    (responseOf (valueIn action) (responseFields (commandIn action)) ++ drop (lengthOf (responseFields (commandIn action))) response)
+-- where no refusal of the lists below applies: the effect, and the cells, which FERS alone burns; a code that is unknown is refused before
+abbrev pub accepted : Command → (image marks request : List ℕ) → State → Outcome Effect (List ℕ)
+accepted Clkc image marks request s = outcome (clearOf request) (s .cells)
+accepted Klod image marks request s = outcome (loadOf (s .context) request) (s .cells)
+accepted Kunl image marks request s = outcome (unloadOf (s .context) request) (s .cells)
+accepted Fers image marks request s = telling fersOf (uncutOf image (s .cells) marks (partitionIn request))
+accepted Fsta image marks request s = outcome (statusOf (activeSlot image (s .cells))) (s .cells)
+accepted Unknown image marks request s = refusing refused (s .cells) 3
+
+-- ---- refusals
+
+-- 11 "KLOD, HEK not available", 12 "KLOD, tag held already", 13 "KLOD, no empty place"
+abbrev pub loadTests : (image request : List ℕ) → State → List (Bool × ℕ)
+loadTests image request s =
+    (not (available (activeSlot image (s .cells))), 11)
+    ∷ (hasPlace (cacheOf (s .context)) (Tag (tagAt (requestFields Klod) request)), 12)
+    ∷ (not (hasPlace (cacheOf (s .context)) Empty), 13)
+    ∷ []
+
+-- 14 "KUNL, tag not held"
+abbrev pub unloadTests : (context request : List ℕ) → List (Bool × ℕ)
+unloadTests context request =
+    (not (hasPlace (cacheOf context) (Tag (tagAt (requestFields Kunl) request))), 14)
+    ∷ []
+
+-- what KLOD does by its own refusals, and KUNL
+unfoldable pub loadEffect : (image request : List ℕ) → State → Effect
+loadEffect image request s = firstOf refused (loadTests image request s) (loadOf (s .context) request)
+
+unfoldable pub unloadEffect : (context request : List ℕ) → Effect
+unloadEffect context request = firstOf refused (unloadTests context request) (unloadOf context request)
+
+-- the refusals of a command by itself
+abbrev pub ownTests : Command → (image request : List ℕ) → State → List (Bool × ℕ)
+ownTests Clkc image request s = []
+ownTests Klod image request s = loadTests image request s
+ownTests Kunl image request s = unloadTests (s .context) request
+ownTests Fers image request s = partitionTests image (partitionIn request) (s .context)
+ownTests Fsta image request s = []
+ownTests Unknown image request s = []
+
+-- what a command does by its own refusals
+abbrev pub ownDone : Command → (image marks request : List ℕ) → State → Outcome Effect (List ℕ)
+ownDone command image marks request s = firstOf (refusing refused (s .cells)) (ownTests command image request s) (accepted command image marks request s)
+
+-- 2, "for the mailbox also": "block not 128 or response buffer under 20 bytes"
+abbrev pub buffersBad : (room block : ℕ) → Bool
+buffersBad room block = not (eqb block 128) || ltb room leastRoom
+
+-- all refusals of a call: 1 and 2 for the drive, 2 for the buffers, 3 to 6 for the request, 7 to 14 for the command; FERS's 15 is its
+-- run's, above
+abbrev pub mailboxTests : (image marks : List ℕ) (code : ℕ) (request : List ℕ) (room block : ℕ) → State → List (Bool × ℕ)
+mailboxTests image marks code request room block s =
+    driveTests image (s .cells) marks
+    ++ ((buffersBad room block, 2)
+    ∷ (requestTests (commandOf code) code request
+    ++ ownTests (commandOf code) image request s))
+
+-- "the lowest that applies is given, and none is given otherwise"
+unfoldable pub doneOf : (image marks : List ℕ) (code : ℕ) (request : List ℕ) (room block : ℕ) → State → Outcome Effect (List ℕ)
+doneOf image marks code request room block s =
+    firstOf (refusing refused (s .cells)) (mailboxTests image marks code request room block s) (accepted (commandOf code) image marks request s)
+
+-- ---- what an effect leaves
+
+-- what an order makes of the context: "CLKC empties it", a load takes its place, an unload frees it
+abbrev pub ordered : Order → (tag : ℕ) (context : List ℕ) → List ℕ
+ordered Nothing tag context = context
+ordered (Clear timeout) tag context = emptied context
+ordered (Load place timeout) tag context = loaded place tag context
+ordered (Unload place timeout) tag context = freed place context
+
+-- the context
+abbrev pub contextAfter : Effect → (context : List ℕ) → List ℕ
+contextAfter e context = ordered (e .order) (e .tag) context
+
+-- the state: the cells as they were left, and the context
+abbrev pub stateAfter : Outcome Effect (List ℕ) → State → State
+stateAfter done s = withContext (contextAfter (done .told) (s .context)) (withCells (done .after) s)
+
+-- the column "engine": "clear; block all zero", "load; MEK, METD = tag .., AUX zero", "unload; as load with MEK zero"; "Where the
+-- engine column says none, the block is unchanged"
+abbrev pub blockAfter : Order → (tag : ℕ) (request block : List ℕ) → List ℕ
+blockAfter Nothing tag request block = block
+blockAfter (Clear timeout) tag request block = engineBlock [] 0
+blockAfter (Load place timeout) tag request block = engineBlock (mekAt (requestFields Klod) request) tag
+blockAfter (Unload place timeout) tag request block = engineBlock [] tag
+
+-- the response, by the command's field list
+abbrev pub responseAfter : Effect → (response : List ℕ) → List ℕ
+responseAfter e response = cond (eqb (e .refusal) 0) (responseIn (e .command) (e .numbers) response) response
 
 -- the refusal's number, or "the response length" and "the engine order: none, or clear with the timeout, or load or unload with place
 -- and timeout"
-abbrev pub replyOf : Action → Reply
-replyOf (Refuse n) = Refused n
-replyOf (Clear timeout) = Accepted (lengthOf (responseFields Clkc)) (ClearOrder timeout)
-replyOf (Load place tag timeout) = Accepted (lengthOf (responseFields Klod)) (LoadOrder place timeout)
-replyOf (Unload place tag timeout) = Accepted (lengthOf (responseFields Kunl)) (UnloadOrder place timeout)
-replyOf (Ended short first) = Accepted (lengthOf (responseFields Fers)) Nothing
-replyOf (Status slot) = Accepted (lengthOf (responseFields Fsta)) Nothing
+abbrev pub replyOf : Effect → Reply
+replyOf e = cond (eqb (e .refusal) 0) (Accepted (lengthOf (responseFields (e .command) (e .numbers))) (e .order)) (Refused (e .refusal))
 
--- ---- what a call leaves
+-- ---- a call
 
--- the reply, and everything lent afterwards
-pub record Outcome : Type 0 where
-  pub reply : Reply
-  pub cells : List ℕ
-  pub cache : Cache
+-- what it is lent to change: the state, the response buffer and the engine block
+pub record Lent : Type 0 where
+  pub state : State
   pub response : List ℕ
   pub block : List ℕ
 
--- what a call left
-abbrev pub left : Reply → (cells : List ℕ) → Cache → (response block : List ℕ) → Outcome
-left reply cells cache response block = record { reply = reply; cells = cells; cache = cache; response = response; block = block }
+abbrev pub lent : State → (response block : List ℕ) → Lent
+lent state response block = record { state = state; response = response; block = block }
 
--- what was done, and what it leaves of what the call was lent
-abbrev pub outcomeOf : Done → Cache → (request response block : List ℕ) → Outcome
-outcomeOf done cache request response block =
-    left (replyOf (done .action)) (done .cells) (cacheAfter (done .action) cache) (responseAfter (done .action) response) (blockAfter (done .action) request block)
+-- what was done, as what the call tells and leaves
+abbrev pub carriedOut : (request : List ℕ) → Lent → Outcome Effect (List ℕ) → Outcome Reply Lent
+carriedOut request l done =
+    let e : Effect = done .told in
+    outcome (replyOf e)
+    (lent (stateAfter done (l .state)) (responseAfter e (l .response)) (blockAfter (e .order) (e .tag) request (l .block)))
 
 -- a call of the mailbox
-abbrev pub mailboxOf : (image cells marks : List ℕ) → Cache → (code : ℕ) (request response block : List ℕ) → Outcome
-mailboxOf image cells marks cache code request response block =
-    outcomeOf (doneOf image cells marks cache code request (length response) (length block)) cache request response block
+abbrev pub mailboxOf : (image marks : List ℕ) (code : ℕ) (request : List ℕ) → Lent → Outcome Reply Lent
+mailboxOf image marks code request l =
+    carriedOut request l (doneOf image marks code request (length (l .response)) (length (l .block)) (l .state))
 
--- what an action asks of request and block, where it is carried out
-pub record Fits (action : Action) (request block : List ℕ) : Type 0 where
+-- ---- below the entry point
+
+-- an order to load a key
+abbrev pub loads : Order → Bool
+loads Nothing = false
+loads (Clear timeout) = false
+loads (Load place timeout) = true
+loads (Unload place timeout) = false
+
+-- what an order asks of request and block, where it is carried out
+pub record Fits (order : Order) (request block : List ℕ) : Type 0 where
   pub block-long : length block ≡ 128
-  pub request-long : length request ≡ lengthOf (requestFields (commandIn action))
+  pub request-long : loads order ≡ true → length request ≡ lengthOf (requestFields Klod)

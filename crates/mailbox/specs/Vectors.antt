@@ -1,25 +1,32 @@
--- A load, its unload and a clear on the small drive, and each refusal where every later one applies too, by computation. Document 01's cases are
--- in `history` SmallDrive. Assumes nothing.
+-- A load, its unload and a clear on the small drive, and each refusal where every later one applies too, by computation. Document 01's
+-- cases are in `history` SmallDrive. Assumes nothing.
 use Prim.Native.Nat.{ℕ}
 use mathlib.Core.Path.{_≡_, refl}
-use mathlib.Core.List.{List, [], _∷_, _++_}
+use mathlib.Core.List.{List, [], _∷_, _++_, map}
 use lib.ListN.{replicate}
 use lib.Count.{onesIn}
 use Rattle.laws.specs.Tests.{every}
 use Rattle.laws.specs.Below.{allBelow, countBelow, firstFrom}
 use Rattle.endian.specs.Endian.{u16At, u32At, bytes4}
+use Rattle.context.specs.State.{state, Outcome, outcome}
 use Rattle.map.specs.Map.{headerGood, fillerGood, entryGood, placeGood, mapGood}
 use Rattle.map.specs.Vectors.{image, two}
 use Rattle.partition.specs.Partition.{shortAt, counted, zeroCell, stateOf}
 use Rattle.drive.specs.Drive.{wholeArrays, surveyAt, slotAt, openSlot, activeSlot}
-use Rattle.cache.specs.Cache.{Cache, cacheOf, isAt, placed, empty}
+use Rattle.cache.specs.Cache.{cacheOf, isAt, placed, emptied}
 use Rattle.engine.specs.Engine.{zeros}
 use Rattle.engine.specs.declared.Order.the-variants.{Clear, Load, Unload}
 use Rattle.codec.specs.Request.{requestTests}
-use Rattle.mailbox.specs.declared.Action.{Action}
-use Rattle.mailbox.specs.declared.Action.the-variants.{Refuse}
+use Rattle.mailbox.specs.declared.Effect.{Effect}
+use Rattle.mailbox.specs.declared.Reply.{Reply}
 use Rattle.mailbox.specs.declared.Reply.the-variants.{Accepted}
-use Rattle.mailbox.specs.Mailbox.{doneOf, Outcome, left, mailboxOf}
+use Rattle.mailbox.specs.Mailbox.{refused, doneOf, Lent, lent, mailboxOf}
+
+-- a call, by computation: to unfold this is to unfold all that it computes with
+runs : (image marks : List ℕ) (code : ℕ) (request : List ℕ) → Lent → Outcome Reply Lent
+unfolding doneOf requestTests mapGood wholeArrays every headerGood fillerGood entryGood placeGood allBelow u16At u32At activeSlot openSlot
+    slotAt surveyAt stateOf counted shortAt zeroCell countBelow firstFrom onesIn cacheOf isAt placed emptied
+runs = mailboxOf
 
 abbrev small : List ℕ
 small = image 2 12 60 8 [] two
@@ -27,25 +34,37 @@ small = image 2 12 60 8 [] two
 abbrev cells : List ℕ
 cells = 1 ∷ replicate 11 0
 
+-- contexts, the kinds of 16 places and then their tags: every place empty, and the tag 0x100000002 in the first
+abbrev no-key : List ℕ
+no-key = zeros 32
+
+abbrev one-key : List ℕ
+one-key = 1 ∷ zeros 15 ++ (0x1_0000_0002 ∷ zeros 15)
+
 -- a call on the small drive, with a block of sevens and a response buffer of 24 nines
-abbrev call : Cache → (code : ℕ) (request : List ℕ) → Outcome
-call cache code request = mailboxOf small cells (replicate 12 0) cache code request (replicate 24 9) (replicate 128 7)
+abbrev call : (context : List ℕ) (code : ℕ) (request : List ℕ) → Outcome Reply Lent
+call context code request = runs small (replicate 12 0) code request (lent (state cells context) (replicate 24 9) (replicate 128 7))
 
--- a load with timeout 5 of the tag 0x100000002 with an MEK of threes, and its unload
-abbrev one-key : Cache
-one-key = cacheOf (1 ∷ zeros 15) (0x1_0000_0002 ∷ zeros 15)
-
-load : call empty 0x4B4C_4F44 (bytes4 0xFFFF_FE0E ++ bytes4 0 ++ bytes4 5 ++ bytes4 2 ++ bytes4 1 ++ replicate 64 3) ≡ left (Accepted 16 (Load 0 5)) cells one-key (zeros 16 ++ replicate 8 9) (replicate 64 3 ++ (2 ∷ 0 ∷ 0 ∷ 0 ∷ 1 ∷ 0 ∷ 0 ∷ 0 ∷ zeros 56))
-unfolding doneOf requestTests mapGood wholeArrays every headerGood fillerGood entryGood placeGood allBelow u16At u32At activeSlot openSlot slotAt surveyAt stateOf counted shortAt zeroCell countBelow firstFrom onesIn isAt placed
+-- a load with timeout 5 of that tag with an MEK of threes, and its unload
+load :
+    call no-key 0x4B4C_4F44 (bytes4 0xFFFF_FE0E ++ bytes4 0 ++ bytes4 5 ++ bytes4 2 ++ bytes4 1 ++ replicate 64 3)
+    ≡ outcome (Accepted 16 (Load 0 5))
+    (lent (state cells one-key) (zeros 16 ++ replicate 8 9) (replicate 64 3 ++ (2 ∷ 0 ∷ 0 ∷ 0 ∷ 1 ∷ 0 ∷ 0 ∷ 0 ∷ zeros 56)))
+unfolding runs
 load = refl
 
-unload : call one-key 0x4B55_4E4C (bytes4 0xFFFF_FEBE ++ bytes4 0 ++ bytes4 5 ++ bytes4 2 ++ bytes4 1) ≡ left (Accepted 12 (Unload 0 5)) cells empty (zeros 12 ++ replicate 12 9) (zeros 64 ++ (2 ∷ 0 ∷ 0 ∷ 0 ∷ 1 ∷ 0 ∷ 0 ∷ 0 ∷ zeros 56))
-unfolding doneOf requestTests mapGood wholeArrays every headerGood fillerGood entryGood placeGood allBelow u16At u32At firstFrom isAt placed
+unload :
+    call one-key 0x4B55_4E4C (bytes4 0xFFFF_FEBE ++ bytes4 0 ++ bytes4 5 ++ bytes4 2 ++ bytes4 1)
+    ≡ outcome (Accepted 12 (Unload 0 5))
+    (lent (state cells no-key) (zeros 12 ++ replicate 12 9) (zeros 64 ++ (2 ∷ 0 ∷ 0 ∷ 0 ∷ 1 ∷ 0 ∷ 0 ∷ 0 ∷ zeros 56)))
+unfolding runs
 unload = refl
 
 -- a clear with timeout 1,000
-clear : call one-key 0x434C_4B43 (bytes4 0xFFFF_FDF8 ++ bytes4 0 ++ bytes4 1000) ≡ left (Accepted 12 (Clear 1000)) cells empty (zeros 12 ++ replicate 12 9) (zeros 128)
-unfolding doneOf requestTests mapGood wholeArrays every headerGood fillerGood entryGood placeGood allBelow u16At u32At
+clear :
+    call one-key 0x434C_4B43 (bytes4 0xFFFF_FDF8 ++ bytes4 0 ++ bytes4 1000)
+    ≡ outcome (Accepted 12 (Clear 1000)) (lent (state cells no-key) (zeros 12 ++ replicate 12 9) (zeros 128))
+unfolding runs
 clear = refl
 
 -- ---- refusals: each call breaks its own rule and, where it can, every later one
@@ -54,15 +73,15 @@ clear = refl
 abbrev klod : (chksum reserved : ℕ) → List ℕ
 klod chksum reserved = bytes4 chksum ++ bytes4 reserved ++ bytes4 0 ++ bytes4 2 ++ bytes4 0 ++ replicate 64 0
 
--- a full cache that holds tag 2; one that is full of others; the small drive with its slot erased
-abbrev full : (tag : ℕ) → Cache
-full tag = cacheOf (replicate 16 1) (replicate 16 tag)
+-- a full cache that holds tag 2, or is full of others; and the small drive with its slot erased
+abbrev full : (tag : ℕ) → List ℕ
+full tag = replicate 16 1 ++ replicate 16 tag
 
 abbrev erased : List ℕ
 erased = replicate 6 0xFFFF_FFFF ++ replicate 6 0
 
-abbrev does : (image cells : List ℕ) → Cache → (code : ℕ) (request : List ℕ) (room block : ℕ) → Action
-does image cells cache code request room block = doneOf image cells (replicate 12 0) cache code request room block .action
+abbrev does : (image cells context : List ℕ) (code : ℕ) (request : List ℕ) (room block : ℕ) → Effect
+does image cells context code request room block = doneOf image (replicate 12 0) code request room block (state cells context) .told
 
 refusals :
     -- 1 and all the rest
@@ -85,6 +104,6 @@ refusals :
     -- 14
     ∷ does small cells (full 3) 0x4B55_4E4C (bytes4 0xFFFF_FEC4 ++ bytes4 0 ++ bytes4 0 ++ bytes4 2 ++ bytes4 0) 20 128
     ∷ []
-    ≡ Refuse 1 ∷ Refuse 2 ∷ Refuse 2 ∷ Refuse 2 ∷ Refuse 3 ∷ Refuse 4 ∷ Refuse 5 ∷ Refuse 6 ∷ Refuse 7 ∷ Refuse 8 ∷ Refuse 10 ∷ Refuse 11 ∷ Refuse 12 ∷ Refuse 13 ∷ Refuse 14 ∷ []
-unfolding doneOf requestTests mapGood wholeArrays every headerGood fillerGood entryGood placeGood allBelow u16At u32At activeSlot openSlot slotAt surveyAt stateOf counted shortAt zeroCell countBelow firstFrom onesIn isAt
+    ≡ map refused (1 ∷ 2 ∷ 2 ∷ 2 ∷ 3 ∷ 4 ∷ 5 ∷ 6 ∷ 7 ∷ 8 ∷ 10 ∷ 11 ∷ 12 ∷ 13 ∷ 14 ∷ [])
+unfolding runs
 refusals = refl

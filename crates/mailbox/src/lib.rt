@@ -1,34 +1,32 @@
 // The mailbox: a code and a request go in; out come a reply with the engine's order, the engine block
-// and a response in the lent buffers, and the fuses and the key cache as the command leaves them.
-// First the call is judged, its action decided and, for FERS, the erasure run; then cache, block and
-// response are written as the action says. A refusal changes nothing, but for the indicator that 15
-// leaves burned. `call` is the entry point: it answers for any bytes and any lengths. The definitions
-// are in `specs/Mailbox`, the laws in `specs/Laws`. It rests on `codec`, `engine`, `cache`, `erasure`
-// and `drive`, and on what lies below them.
+// and a response in the lent buffers, and the fuses and the context as the command leaves them. First
+// the call is judged, its effect found and, for FERS, the erasure run; then the context and the block
+// are written by the effect's order, and the response by its numbers. A refusal changes nothing, but
+// for the indicator that 15 leaves burned. `call` is the entry point: it answers for any bytes and any
+// lengths. The definitions are in `specs/Mailbox`, the laws in `specs/Laws` and `specs/Told`. It rests
+// on `codec`, `engine`, `cache`, `context`, `erasure` and `drive`, and on what lies below them.
 use cache::Sought;
 use codec::Command;
+use codec::Numbers;
+use context::Context;
 use drive::ActiveSlot;
 use drive::Check;
 use engine::Order;
 use erasure::Answer;
 ghost use mathlib.Core.Path.{_≡_};
-ghost use mathlib.Core.Bool.{false};
-ghost use Prim.Native.Nat.{_+_, _≤_};
 ghost use lib.ListN.{length};
-ghost use Rattle.laws.specs.Put.{Put};
+ghost use Rattle.context.specs.State.{state, outcome};
 ghost use Rattle.drive.specs.Drive.{Whole};
-ghost use Rattle.cache.specs.Cache.{cacheOf};
-ghost use Rattle.mailbox.specs.Mailbox.{loadAction, unloadAction, fersAction, did, ownDone, doneOf, refusing, cacheAfter, blockAfter, hekNumber, ownBytes, responseAfter, replyOf, left, mailboxOf, Fits};
+ghost use Rattle.mailbox.specs.Mailbox.{effect, refused, clearOf, fersOf, statusOf, hekNumber, loadEffect, unloadEffect, ownDone, doneOf, contextAfter, blockAfter, lent, mailboxOf, Fits};
 
-// What a call does: nothing but refuse, or what its command does with what request, drive and cache
-// give it. Of an erasure, what it did.
-pub enum Action {
-    Refuse(u32),
-    Clear { timeout: u32 },
-    Load { place: u32, tag: u64, timeout: u32 },
-    Unload { place: u32, tag: u64, timeout: u32 },
-    Ended { short: u32, first: u32 },
-    Status(ActiveSlot),
+// What a command does that is not refused: what the engine is ordered, with the tag, and the numbers
+// of the response after reserved. A refusal has its number, orders nothing and is not responded.
+pub struct Effect {
+    pub refusal: u32,
+    pub command: Command,
+    pub order: Order,
+    pub tag: u64,
+    pub numbers: Numbers,
 }
 
 // The refusal's number, or the response's bytes and the engine's order.
@@ -37,74 +35,92 @@ pub enum Reply {
     Accepted { length: u32, order: Order },
 }
 
-// The places of the cache, the bytes of the engine block, and those of the least response buffer.
-const PLACES: u32 = 16;
-
+// The bytes of the engine block.
 const BLOCK_BYTES: usize = 128;
 
-const LEAST_ROOM: usize = 20;
+// The effect of a command.
+fn effect_with(command: Command, order: Order, tag: u64, numbers: Numbers) -> Effect
+    ensures { λ r. ⌜ r ≡ effect command order tag numbers ⌝ }
+{
+    Effect {
+        refusal: 0,
+        command: command,
+        order: order,
+        tag: tag,
+        numbers: numbers,
+    }
+}
+
+// A refusal.
+fn refuse(number: u32) -> Effect
+    ensures { λ r. ⌜ r ≡ refused number ⌝ }
+{
+    Effect {
+        refusal: number,
+        command: Command::Unknown,
+        order: Order::Nothing,
+        tag: 0,
+        numbers: codec::no_numbers(),
+    }
+}
 
 // What KLOD does: refusals 11, 12 and 13.
-fn load_action(
-    image: &[u8],
-    cells: &[u32],
-    kinds: &[u8; 16],
-    tags: &[u64; 16],
-    request: &[u8],
-) -> Action
+fn load_effect(image: &[u8], cells: &[u32], context: &Context, request: &[u8]) -> Effect
     requires { ⌜ Whole (now image) (now cells) ⌝ }
-    ensures { λ r. ⌜ r ≡ loadAction (now (image .entry)) (now (cells .entry)) (cacheOf (now (kinds .entry)) (now (tags .entry))) (now (request .entry)) ⌝ }
+    ensures { λ r. ⌜ r ≡ loadEffect (now (image .entry)) (now (request .entry)) (state (now (cells .entry)) (now (context .entry))) ⌝ }
 {
     if !drive::is_available(drive::active_in(image, cells)) {
-        return Action::Refuse(11);
+        return refuse(11);
     }
     let tag = codec::tag_of(request);
-    if cache::has_place(kinds, tags, Sought::Tag(tag)) {
-        return Action::Refuse(12);
+    if cache::has_place(context, Sought::Tag(tag)) {
+        return refuse(12);
     }
-    let place = cache::lowest_place(kinds, tags, Sought::Empty);
-    if place < PLACES {
-        return Action::Load {
-            place: place,
-            tag: tag,
-            timeout: codec::timeout_of(request),
-        };
+    let place = cache::lowest_place(context, Sought::Empty);
+    if cache::PLACES <= place {
+        return refuse(13);
     }
-    Action::Refuse(13)
+    let order = Order::Load {
+        place: place,
+        timeout: codec::timeout_of(request),
+    };
+    effect_with(Command::Klod, order, tag, codec::one_number(place))
 }
 
 // What KUNL does: refusal 14.
-fn unload_action(kinds: &[u8; 16], tags: &[u64; 16], request: &[u8]) -> Action
-    ensures { λ r. ⌜ r ≡ unloadAction (cacheOf (now (kinds .entry)) (now (tags .entry))) (now (request .entry)) ⌝ }
+fn unload_effect(context: &Context, request: &[u8]) -> Effect
+    ensures { λ r. ⌜ r ≡ unloadEffect (now (context .entry)) (now (request .entry)) ⌝ }
 {
     let tag = codec::tag_of(request);
-    let place = cache::lowest_place(kinds, tags, Sought::Tag(tag));
-    if place < PLACES {
-        return Action::Unload {
-            place: place,
-            tag: tag,
-            timeout: codec::timeout_of(request),
-        };
+    let place = cache::lowest_place(context, Sought::Tag(tag));
+    if cache::PLACES <= place {
+        return refuse(14);
     }
-    Action::Refuse(14)
+    let order = Order::Unload {
+        place: place,
+        timeout: codec::timeout_of(request),
+    };
+    effect_with(Command::Kunl, order, tag, codec::no_numbers())
 }
 
 // What FERS does, by what its erasure answered. It is never cut: no order reaches the cut that it
 // names, so the last case does not happen.
-fn fers_action(answer: Answer) -> Action
-    ensures { λ r. ⌜ r ≡ fersAction answer ⌝ }
+fn fers_effect(answer: Answer) -> Effect
+    ensures { λ r. ⌜ r ≡ fersOf answer ⌝ }
 {
     match answer {
         Answer::Ended {
             short,
             first,
             burns: _,
-        } => Action::Ended {
-            short: short,
-            first: first,
-        },
-        Answer::Refused { number, burns: _ } => Action::Refuse(number),
-        Answer::Cut { burns: _ } => Action::Refuse(15),
+        } => effect_with(
+            Command::Fers,
+            Order::Nothing,
+            0,
+            codec::two_numbers(short, first),
+        ),
+        Answer::Refused { number, burns: _ } => refuse(number),
+        Answer::Cut { burns: _ } => refuse(15),
     }
 }
 
@@ -113,144 +129,19 @@ fn run_fers(
     image: &[u8],
     cells: &mut [u32],
     marks: &[u32],
-    kinds: &[u8; 16],
-    tags: &[u64; 16],
+    context: &Context,
     request: &[u8],
-) -> Action
+) -> Effect
     requires { ⌜ Whole (now image) (now cells) × (length (now marks) ≡ length (now cells)) ⌝ }
-    ensures { λ r. ⌜ did r (now (cells .exit)) ≡ ownDone Command.Fers (now (image .entry)) (now (cells .entry)) (now (marks .entry)) (cacheOf (now (kinds .entry)) (now (tags .entry))) (now (request .entry)) ⌝ }
+    ensures { λ r. ⌜ outcome r (now (cells .exit))
+        ≡ ownDone Command.Fers (now (image .entry)) (now (marks .entry)) (now (request .entry)) (state (now (cells .entry)) (now (context .entry))) ⌝ }
 {
     let partition = codec::partition_of(request);
-    let number = erasure::partition_refusal(image, partition, kinds, tags);
+    let number = erasure::partition_refusal(image, partition, context);
     if number != 0 {
-        return Action::Refuse(number);
+        return refuse(number);
     }
-    fers_action(erasure::erase_judged(image, cells, marks, partition))
-}
-
-// What a command does, by its own refusals, 7 to 15. FERS alone burns, and does so here, since 15 shows
-// only after its first burn.
-fn own_action(
-    command: Command,
-    image: &[u8],
-    cells: &mut [u32],
-    marks: &[u32],
-    kinds: &[u8; 16],
-    tags: &[u64; 16],
-    request: &[u8],
-) -> Action
-    requires { ⌜ Whole (now image) (now cells) × (length (now marks) ≡ length (now cells)) ⌝ }
-    ensures { λ r. ⌜ did r (now (cells .exit)) ≡ ownDone command (now (image .entry)) (now (cells .entry)) (now (marks .entry)) (cacheOf (now (kinds .entry)) (now (tags .entry))) (now (request .entry)) ⌝ }
-{
-    match command {
-        Command::Clkc => Action::Clear {
-            timeout: codec::timeout_of(request),
-        },
-        Command::Klod => load_action(image, cells, kinds, tags, request),
-        Command::Kunl => unload_action(kinds, tags, request),
-        Command::Fers => run_fers(image, cells, marks, kinds, tags, request),
-        Command::Fsta => Action::Status(drive::active_in(image, cells)),
-        Command::Unknown => Action::Refuse(3),
-    }
-}
-
-// What a call does: every refusal, the lowest first; and the burns of FERS. `room` and `block` are
-// the lengths of the response buffer and of the engine block.
-fn action_of(
-    image: &[u8],
-    cells: &mut [u32],
-    marks: &[u32],
-    kinds: &[u8; 16],
-    tags: &[u64; 16],
-    code: u32,
-    request: &[u8],
-    room: usize,
-    block: usize,
-) -> Action
-    ensures { λ r. ⌜ did r (now (cells .exit)) ≡ doneOf (now (image .entry)) (now (cells .entry)) (now (marks .entry)) (cacheOf (now (kinds .entry)) (now (tags .entry))) code (now (request .entry)) room block ⌝ }
-{
-    match drive::check_drive(image, cells, marks) {
-        Check::Refused(number) => Action::Refuse(number),
-        Check::Ready(_) => {
-            if (block != BLOCK_BYTES) | (room < LEAST_ROOM) {
-                return Action::Refuse(2);
-            }
-            let command = codec::command_of(code);
-            let number = codec::request_refusal(command, code, request);
-            if number != 0 {
-                return Action::Refuse(number);
-            }
-            own_action(command, image, cells, marks, kinds, tags, request)
-        }
-    }
-}
-
-// Whether an action is a refusal.
-fn is_refused(action: Action) -> bool
-    ensures { λ r. ⌜ r ≡ refusing action ⌝ }
-{
-    match action {
-        Action::Refuse(_) => true,
-        Action::Clear { timeout: _ } => false,
-        Action::Load {
-            place: _,
-            tag: _,
-            timeout: _,
-        } => false,
-        Action::Unload {
-            place: _,
-            tag: _,
-            timeout: _,
-        } => false,
-        Action::Ended { short: _, first: _ } => false,
-        Action::Status(_) => false,
-    }
-}
-
-// Changes the cache as an action does.
-fn update_cache(kinds: &mut [u8; 16], tags: &mut [u64; 16], action: Action)
-    ensures { λ _. ⌜ cacheOf (now (kinds .exit)) (now (tags .exit)) ≡ cacheAfter action (cacheOf (now (kinds .entry)) (now (tags .entry))) ⌝ }
-{
-    match action {
-        Action::Refuse(_) => (),
-        Action::Clear { timeout: _ } => cache::clear(kinds, tags),
-        Action::Load {
-            place,
-            tag,
-            timeout: _,
-        } => cache::load(kinds, tags, place, tag),
-        Action::Unload {
-            place,
-            tag: _,
-            timeout: _,
-        } => cache::free(kinds, tags, place),
-        Action::Ended { short: _, first: _ } => (),
-        Action::Status(_) => (),
-    }
-}
-
-// Writes the engine block of an action that orders something. An empty part of the request stands for
-// no key: its MEK is all zero.
-fn update_block(block: &mut [u8], request: &[u8], action: Action)
-    requires { ⌜ Fits action (now request) (now block) ⌝ }
-    ensures { λ _. ⌜ now (block .exit) ≡ blockAfter action (now (request .entry)) (now (block .entry)) ⌝ }
-{
-    match action {
-        Action::Refuse(_) => (),
-        Action::Clear { timeout: _ } => engine::write_block(block, &request[..0], 0),
-        Action::Load {
-            place: _,
-            tag,
-            timeout: _,
-        } => engine::write_block(block, codec::mek_of(request), tag),
-        Action::Unload {
-            place: _,
-            tag,
-            timeout: _,
-        } => engine::write_block(block, &request[..0], tag),
-        Action::Ended { short: _, first: _ } => (),
-        Action::Status(_) => (),
-    }
+    fers_effect(erasure::erase_judged(image, cells, marks, partition))
 }
 
 // 1 where the HEK is available, else 0.
@@ -260,86 +151,111 @@ fn hek_number(slot: ActiveSlot) -> u32
     if drive::is_available(slot) { 1 } else { 0 }
 }
 
-// Writes the fields after reserved, and answers the place past them.
-fn put_fields(out: &mut [u8], at: usize, action: Action) -> usize
-    requires { ⌜ at + 8 ≤ length (now out) ⌝ }
-    ensures { λ r. ⌜ Put at (ownBytes action) (now (out .entry)) (now (out .exit)) r ⌝ }
+// What FSTA tells of the active slot.
+fn status_effect(slot: ActiveSlot) -> Effect
+    ensures { λ r. ⌜ r ≡ statusOf slot ⌝ }
 {
-    match action {
-        Action::Refuse(_) => at,
-        Action::Clear { timeout: _ } => at,
-        Action::Load {
-            place,
-            tag: _,
-            timeout: _,
-        } => endian::put_u32(out, at, place),
-        Action::Unload {
+    effect_with(
+        Command::Fsta,
+        Order::Nothing,
+        0,
+        codec::two_numbers(drive::slot_number(slot), hek_number(slot)),
+    )
+}
+
+// What CLKC does.
+fn clear_effect(request: &[u8]) -> Effect
+    ensures { λ r. ⌜ r ≡ clearOf (now (request .entry)) ⌝ }
+{
+    let order = Order::Clear {
+        timeout: codec::timeout_of(request),
+    };
+    effect_with(Command::Clkc, order, 0, codec::no_numbers())
+}
+
+// What a command does, by its own refusals, 7 to 15. FERS alone burns, here: 15 shows only after one.
+fn own_effect(
+    command: Command,
+    image: &[u8],
+    cells: &mut [u32],
+    marks: &[u32],
+    context: &Context,
+    request: &[u8],
+) -> Effect
+    requires { ⌜ Whole (now image) (now cells) × (length (now marks) ≡ length (now cells)) ⌝ }
+    ensures { λ r. ⌜ outcome r (now (cells .exit))
+        ≡ ownDone command (now (image .entry)) (now (marks .entry)) (now (request .entry)) (state (now (cells .entry)) (now (context .entry))) ⌝ }
+{
+    match command {
+        Command::Clkc => clear_effect(request),
+        Command::Klod => load_effect(image, cells, context, request),
+        Command::Kunl => unload_effect(context, request),
+        Command::Fers => run_fers(image, cells, marks, context, request),
+        Command::Fsta => status_effect(drive::active_in(image, cells)),
+        Command::Unknown => refuse(3),
+    }
+}
+
+// What a call does: every refusal, the lowest first; and the burns of FERS. `room` and `block` are
+// the lengths of the response buffer and of the engine block.
+fn effect_of(
+    image: &[u8],
+    cells: &mut [u32],
+    marks: &[u32],
+    context: &Context,
+    code: u32,
+    request: &[u8],
+    room: usize,
+    block: usize,
+) -> Effect
+    ensures { λ r. ⌜ outcome r (now (cells .exit))
+        ≡ doneOf (now (image .entry)) (now (marks .entry)) code (now (request .entry)) room block (state (now (cells .entry)) (now (context .entry))) ⌝ }
+{
+    match drive::check_drive(image, cells, marks) {
+        Check::Refused(number) => refuse(number),
+        Check::Ready(_) => {
+            if (block != BLOCK_BYTES) | (room < codec::LEAST_ROOM) {
+                return refuse(2);
+            }
+            let command = codec::command_of(code);
+            let number = codec::request_refusal(command, code, request);
+            if number != 0 {
+                return refuse(number);
+            }
+            own_effect(command, image, cells, marks, context, request)
+        }
+    }
+}
+
+// Changes the context as an effect does.
+fn update_context(context: &mut Context, effect: Effect)
+    ensures { λ _. ⌜ now (context .exit) ≡ contextAfter effect (now (context .entry)) ⌝ }
+{
+    let order = effect.order;
+    match order {
+        Order::Nothing => (),
+        Order::Clear { timeout: _ } => cache::clear(context),
+        Order::Load { place, timeout: _ } => cache::load(context, place, effect.tag),
+        Order::Unload { place, timeout: _ } => cache::free(context, place),
+    }
+}
+
+// Writes the engine block of an order. An empty part of the request is no key: its MEK is all zero.
+fn update_block(block: &mut [u8], request: &[u8], order: Order, tag: u64)
+    requires { ⌜ Fits order (now request) (now block) ⌝ }
+    ensures { λ _. ⌜ now (block .exit) ≡ blockAfter order tag (now (request .entry)) (now (block .entry)) ⌝ }
+{
+    match order {
+        Order::Nothing => (),
+        Order::Clear { timeout: _ } => engine::write_block(block, &request[..0], 0),
+        Order::Load {
             place: _,
-            tag: _,
             timeout: _,
-        } => at,
-        Action::Ended { short, first } => {
-            let next = endian::put_u32(out, at, short);
-            endian::put_u32(out, next, first)
-        }
-        Action::Status(slot) => {
-            let next = endian::put_u32(out, at, drive::slot_number(slot));
-            endian::put_u32(out, next, hek_number(slot))
-        }
-    }
-}
-
-// Writes the response of an action that is no refusal.
-fn respond(response: &mut [u8], action: Action)
-    requires { ⌜ (20 ≤ length (now response)) × (refusing action ≡ false) ⌝ }
-    ensures { λ _. ⌜ now (response .exit) ≡ responseAfter action (now (response .entry)) ⌝ }
-{
-    let at = codec::begin_response(response);
-    let end = put_fields(response, at, action);
-    chksum::close(response, end);
-}
-
-// What the caller is told of an action that is no refusal.
-fn accepted(length: u32, order: Order) -> Reply
-    ensures { λ r. ⌜ r ≡ Reply.Accepted length order ⌝ }
-{
-    Reply::Accepted {
-        length: length,
-        order: order,
-    }
-}
-
-// What the caller is told of an action.
-fn reply_of(action: Action) -> Reply
-    ensures { λ r. ⌜ r ≡ replyOf action ⌝ }
-{
-    match action {
-        Action::Refuse(number) => Reply::Refused(number),
-        Action::Clear { timeout } => accepted(12, Order::Clear { timeout: timeout }),
-        Action::Load {
-            place,
-            tag: _,
-            timeout,
-        } => accepted(
-            16,
-            Order::Load {
-                place: place,
-                timeout: timeout,
-            },
-        ),
-        Action::Unload {
-            place,
-            tag: _,
-            timeout,
-        } => accepted(
-            12,
-            Order::Unload {
-                place: place,
-                timeout: timeout,
-            },
-        ),
-        Action::Ended { short: _, first: _ } => accepted(20, Order::Nothing),
-        Action::Status(_) => accepted(20, Order::Nothing),
+        } => engine::write_block(block, codec::mek_of(request), tag),
+        Order::Unload {
+            place: _,
+            timeout: _,
+        } => engine::write_block(block, &request[..0], tag),
     }
 }
 
@@ -348,32 +264,37 @@ pub fn call(
     image: &[u8],
     cells: &mut [u32],
     marks: &[u32],
-    kinds: &mut [u8; 16],
-    tags: &mut [u64; 16],
+    context: &mut Context,
     code: u32,
     request: &[u8],
     response: &mut [u8],
     block: &mut [u8],
 ) -> Reply
-    ensures { λ r. ⌜ left r (now (cells .exit)) (cacheOf (now (kinds .exit)) (now (tags .exit))) (now (response .exit)) (now (block .exit))
-        ≡ mailboxOf (now (image .entry)) (now (cells .entry)) (now (marks .entry)) (cacheOf (now (kinds .entry)) (now (tags .entry))) code (now (request .entry)) (now (response .entry)) (now (block .entry)) ⌝ }
+    ensures { λ r. ⌜ outcome r (lent (state (now (cells .exit)) (now (context .exit))) (now (response .exit)) (now (block .exit)))
+        ≡ mailboxOf (now (image .entry)) (now (marks .entry)) code (now (request .entry))
+        (lent (state (now (cells .entry)) (now (context .entry))) (now (response .entry)) (now (block .entry))) ⌝ }
 {
-    let action = action_of(
+    let effect = effect_of(
         image,
         cells,
         marks,
-        kinds,
-        tags,
+        context,
         code,
         request,
         response.len(),
         block.len(),
     );
-    if is_refused(action) {
-        return reply_of(action);
+    if effect.refusal != 0 {
+        return Reply::Refused(effect.refusal);
     }
-    update_cache(kinds, tags, action);
-    update_block(block, request, action);
-    respond(response, action);
-    reply_of(action)
+    update_context(context, effect);
+    let order = effect.order;
+    update_block(block, request, order, effect.tag);
+    let command = effect.command;
+    let numbers = effect.numbers;
+    let length = codec::write_response(response, command, numbers);
+    Reply::Accepted {
+        length: length,
+        order: order,
+    }
 }

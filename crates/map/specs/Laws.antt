@@ -16,7 +16,8 @@ use Rattle.laws.specs.Below.{allBelow, all-at}
 use Rattle.endian.specs.Endian.{byteAt, u16At}
 use Rattle.map.specs.declared.Header.{Header}
 use Rattle.map.specs.declared.Entry.{Entry}
-use Rattle.map.specs.Map.{headerOf, entryPlace, entryAt, entryOf, endOf, hardware, lifeCycle, zeroizable, secret, slot, headerGood, fillerGood, entryGood, endBefore, placeGood, mapGood}
+use Rattle.map.specs.Map.{headerOf, entryPlace, entryAt, entryOf, endOf, hardware, lifeCycle, zeroizable, secret, slot, headerGood, fillerGood, entryGood}
+use Rattle.map.specs.Map.{endBefore, placeGood, mapGood}
 
 -- past the header a byte of the filler is good where it is zero
 pub filler-is : (s : List ℕ) (k : ℕ) → 8 ≤ k → fillerGood s k ≡ eqb (byteAt s k) 0
@@ -31,7 +32,8 @@ pub end-next : (s : List ℕ) (i : ℕ) → endBefore s (i + 1) ≡ endOf (entry
 end-next s i = simp (ne-eqb (i + 1) 0 (λ e. omega arith), suc-sub i)
 
 -- what the code tests of the entry that starts at byte `at` is its rule
-pub place-is : (s : List ℕ) (i before cells at spare : ℕ) (x : Entry) (b : Bool) → before ≡ endBefore s i → cells ≡ headerOf s .cells → at ≡ entryPlace s i → x ≡ entryAt s at → spare ≡ u16At s (at + 6)
+pub place-is : (s : List ℕ) (i before cells at spare : ℕ) (x : Entry) (b : Bool) → before ≡ endBefore s i → cells ≡ headerOf s .cells → at ≡ entryPlace s i
+    → x ≡ entryAt s at → spare ≡ u16At s (at + 6)
     → b ≡ entryGood before cells x spare
     → b ≡ placeGood s i
 unfolding placeGood

@@ -1,26 +1,24 @@
--- What `readingOf` tells, and its three answers at the fields that were read. Assumes nothing.
-use Prim.Native.Nat.{ℕ, _≤_, _<_}
-use mathlib.Core.Path.{_≡_, refl}
-use mathlib.Core.Bool.{true, false}
+-- What `readingOf` tells, and which of its tests gives the number. Assumes nothing.
+use Prim.Native.Nat.{ℕ}
+use mathlib.Core.Path.{_≡_, refl, ap, _∙_}
+use mathlib.Core.Bool.{true}
 use mathlib.Core.List.{List}
-use borrow.Author.Tests.{le-leb, lt-leb}
-use Rattle.laws.specs.Refusals.{Given, lowest-tells}
-use Rattle.map.specs.Map.{mapGood}
+use Rattle.laws.specs.Refusals.{testAt, refusalAt, Past, refused-at, past-all, GivenFirst, given-first, GivenLowest, lowest-tells}
 use Rattle.reader.specs.Reader.{fieldsOf, readingTests, readingOf}
 use Rattle.reader.specs.declared.Fields.{Fields}
 use Rattle.reader.specs.declared.Reading.the-variants.{Partition, Refused}
 
 module _ (image : List ℕ) (i : ℕ) where
   -- "Checked in ascending order; the lowest that applies is given, and none is given otherwise"
-  pub reading-lowest : Given Refused (readingTests image i) (Partition (fieldsOf image i)) (readingOf image i)
+  pub reading-lowest : GivenLowest Refused (readingTests image i) (Partition (fieldsOf image i)) (readingOf image i)
   reading-lowest = lowest-tells Refused (Partition (fieldsOf image i)) 1 (readingTests image i) refl
 
-  pub bad-map : mapGood image ≡ false → readingOf image i ≡ Refused 1
-  bad-map g = simp g
+  pub reading-first : GivenFirst Refused (readingTests image i) (Partition (fieldsOf image i)) (readingOf image i)
+  reading-first = given-first Refused (Partition (fieldsOf image i)) (readingTests image i)
 
-  module _ (good : mapGood image ≡ true) (fields : Fields) (e : fields ≡ fieldsOf image i) where
-    pub no-partition : fields .header .partitions ≤ i → readingOf image i ≡ Refused 7
-    no-partition l = simp (good, le-leb _ _ (rw e at l))
+  -- which of the tests gives the number, by the test's place, and that none does
+  pub reading-at : (k : ℕ) → Past k (readingTests image i) → testAt (readingTests image i) k ≡ true → Refused (refusalAt (readingTests image i) k) ≡ readingOf image i
+  reading-at k = refused-at Refused (Partition (fieldsOf image i)) k (readingTests image i)
 
-    pub fields-are : i < fields .header .partitions → readingOf image i ≡ Partition fields
-    fields-are l = rw e (simp (good, lt-leb _ _ (rw e at l)))
+  pub reading-past : Past 2 (readingTests image i) → {fields : Fields} → fields ≡ fieldsOf image i → Partition fields ≡ readingOf image i
+  reading-past p e = ap Partition e ∙ past-all Refused (Partition (fieldsOf image i)) (readingTests image i) p

@@ -3,7 +3,7 @@ use Prim.Native.Nat.{ℕ}
 use mathlib.Core.Bool.{Bool, not}
 use mathlib.Core.List.{List, [], _∷_}
 use lib.Dec.{leb}
-use Rattle.laws.specs.Refusals.{lowest}
+use Rattle.laws.specs.Refusals.{firstOf}
 use Rattle.map.specs.Map.{headerOf, entryOf, mapGood}
 use Rattle.map.specs.declared.Header.{Header}
 use Rattle.map.specs.declared.Entry.{Entry}
@@ -28,4 +28,4 @@ readingTests image i =
 
 -- the fields of partition i, or the lowest refusal that applies
 abbrev pub readingOf : (image : List ℕ) (i : ℕ) → Reading
-readingOf image i = lowest Refused (readingTests image i) (Partition (fieldsOf image i))
+readingOf image i = firstOf Refused (readingTests image i) (Partition (fieldsOf image i))

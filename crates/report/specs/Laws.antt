@@ -1,16 +1,16 @@
--- The report's laws: the last line, a law for each refusal, the cells as they are read, the table, and what an accepted input tells.
+-- The report's laws: the last line, which refusal is given, the cells as they are read, the table, and what an accepted input tells.
 -- Assumes nothing.
 use Prim.Native.Nat.{ℕ, _+_, _-_, _*_, _≤_, _<_}
-use mathlib.Core.Path.{_≡_, refl, ap, _∙_}
-use mathlib.Core.Bool.{Bool, true, false, cond, not}
+use mathlib.Core.Path.{_≡_, ap, _∙_}
+use mathlib.Core.Bool.{true, false}
 use mathlib.Core.List.{List, _++_}
 use native.Mathlib.Omega.{arith}
 use native.Mathlib.Nat.{zero-add}
 use lib.ListN.{length, take, drop, set}
 use lib.Seq.{take-at}
-use lib.Dec.{eqb, ltb}
-use borrow.Author.Tests.{lt-ltb, le-ltb, eq-eqb, ne-eqb, ltb-false, eqb-true, not-false}
+use borrow.Author.Tests.{ltb-false, eqb-true, not-false}
 use Rattle.laws.specs.Below.{joinBelow, join-ones, store-next}
+use Rattle.laws.specs.Refusals.{testAt, refusalAt, Past, refused-at, past-all, first-elim, GivenFirst, given-first}
 use Rattle.endian.specs.Endian.{u32At}
 use Rattle.map.specs.declared.Header.{Header}
 use Rattle.map.specs.declared.Entry.{Entry}
@@ -24,7 +24,8 @@ use Rattle.text.specs.Text.{text, decimal}
 use Rattle.laws.specs.Put.{Put}
 use Rattle.report.specs.declared.Reading.{Reading}
 use Rattle.report.specs.declared.Reading.the-variants.{Drive, Refused}
-use Rattle.report.specs.Status.{mapLength, imageOf, cellCount, numberAt, inputCells, readingOf, lineOf, hekLine, lineAt, tableOf, printed, statusOf, Printed}
+use Rattle.report.specs.Status.{mapLength, imageOf, cellCount, numberAt, inputCells, inputTests, readingOf, lineOf, hekLine, lineAt, tableOf, printed}
+use Rattle.report.specs.Status.{statusOf, Printed}
 
 -- ---- the last line
 
@@ -36,44 +37,26 @@ pub hek-some : (slot : ActiveSlot) (i : ℕ) → available slot ≡ true → i �
 unfolding hekLine
 hek-some slot i e n = rw (e, n)
 
--- ---- the refusals, at the map's length and the header that were read
+-- ---- the refusals
 
 module _ (input : List ℕ) where
-  pub cut-length : length input < 2 → readingOf input ≡ Refused 2
+  -- "in this order": the first that applies is given, and none is given otherwise
+  pub reading-first : GivenFirst Refused (inputTests input) Drive (readingOf input)
   unfolding readingOf
-  cut-length l = simp (lt-ltb _ _ l)
+  reading-first = given-first Refused Drive (inputTests input)
 
-  module _ (len : ℕ) (e : len ≡ mapLength input) (two : 2 ≤ length input) where
-    pub long-map : 256 < len → readingOf input ≡ Refused 1
-    unfolding readingOf
-    long-map l = rw (← e) (simp (le-ltb _ _ two, lt-ltb _ _ l))
+  -- which of the tests gives the number, by the test's place, and that none does
+  pub reading-at : (k : ℕ) → Past k (inputTests input) → testAt (inputTests input) k ≡ true → Refused (refusalAt (inputTests input) k) ≡ readingOf input
+  unfolding readingOf
+  reading-at k = refused-at Refused Drive k (inputTests input)
 
-    pub cut-map : len ≤ 256 → length input < 2 + len → readingOf input ≡ Refused 2
-    unfolding readingOf
-    cut-map n l = rw (← e) (simp (le-ltb _ _ two, le-ltb _ _ n, lt-ltb _ _ l))
+  pub reading-past : Past 5 (inputTests input) → Drive ≡ readingOf input
+  unfolding readingOf
+  reading-past = past-all Refused Drive (inputTests input)
 
-    -- the image as the code lends it
-    pub image-is : take (2 + len - 2) (drop 2 input) ≡ imageOf input
-    image-is = let q : 2 + len - 2 ≡ mapLength input = omega arith in rw q
-
-    module _ (n : len ≤ 256) (whole : 2 + len ≤ length input) where
-      -- the tests before the map's pass
-      so-far : {rest : Reading} → cond (not (mapGood (imageOf input))) (Refused 1) (cond (not (eqb (length input) (2 + mapLength input + 8 * cellCount input))) (Refused 2) Drive) ≡ rest → readingOf input ≡ rest
-      unfolding readingOf
-      so-far q =
-          let k : mapLength input ≤ 256 = omega arith in
-          let w : 2 + mapLength input ≤ length input = omega arith in
-          simp (le-ltb _ _ two, le-ltb _ _ k, le-ltb _ _ w) q
-
-      pub bad-map : mapGood (imageOf input) ≡ false → readingOf input ≡ Refused 1
-      bad-map g = so-far (simp g)
-
-      module _ (g : mapGood (imageOf input) ≡ true) where
-        pub whole-drive : length input ≡ 2 + len + 8 * cellCount input → readingOf input ≡ Drive
-        whole-drive l = let q : length input ≡ 2 + mapLength input + 8 * cellCount input = omega arith in so-far (simp (g, eq-eqb _ _ q))
-
-        pub not-whole : (length input ≡ 2 + len + 8 * cellCount input → ⊥) → readingOf input ≡ Refused 2
-        not-whole l = so-far (simp (g, ne-eqb _ _ (λ (q : length input ≡ 2 + mapLength input + 8 * cellCount input). l (omega arith))))
+  -- the image as the code lends it, at the map's length that was read
+  pub image-is : {len : ℕ} → len ≡ mapLength input → take (2 + len - 2) (drop 2 input) ≡ imageOf input
+  image-is {len} e = let q : 2 + len - 2 ≡ mapLength input = omega arith in rw q
 
 -- ---- the cells, one number stored after the other
 
@@ -92,15 +75,12 @@ pub line-is : (image cells : List ℕ) (i : ℕ) (x : Entry) (survey : Survey) �
 unfolding lineAt
 line-is image cells i x survey e q = rw (e, q)
 
-pub table-is : (image cells : List ℕ) (p : ℕ) (slot : ActiveSlot) → p ≡ headerOf image .partitions → slot ≡ activeSlot image cells → text "part cells state short\n" ++ joinBelow (lineAt image cells) p ++ hekLine slot ≡ tableOf image cells
+pub table-is : (image cells : List ℕ) (p : ℕ) (slot : ActiveSlot) → p ≡ headerOf image .partitions → slot ≡ activeSlot image cells
+    → text "part cells state short\n" ++ joinBelow (lineAt image cells) p ++ hekLine slot ≡ tableOf image cells
 unfolding tableOf
 table-is image cells p slot e q = rw (e, q)
 
 -- ---- what an accepted input tells
-
-past : (b : Bool) (n : ℕ) (rest : Reading) → cond b (Refused n) rest ≡ Drive → (b ≡ false) × (rest ≡ Drive)
-past true n rest e = absurd (let z : _≡_ {A = ℕ} 0 1 = cc in omega arith)
-past false n rest e = (refl, e)
 
 pub record Accepted (input : List ℕ) : Type 0 where
   pub two : 2 ≤ length input
@@ -111,19 +91,16 @@ pub record Accepted (input : List ℕ) : Type 0 where
 
 pub accepted : (input : List ℕ) → readingOf input ≡ Drive → Accepted input
 unfolding readingOf
-accepted input e =
-    let a = past (ltb (length input) 2) 2 _ e in
-    let b = past (ltb 256 (mapLength input)) 1 _ (a .1) in
-    let c = past (ltb (length input) (2 + mapLength input)) 2 _ (b .1) in
-    let d = past (not (mapGood (imageOf input))) 1 _ (c .1) in
-    let f = past (not (eqb (length input) (2 + mapLength input + 8 * cellCount input))) 2 _ (d .1) in
-    record {
-      two = ltb-false _ _ (a .0);
-      most = ltb-false _ _ (b .0);
-      whole = ltb-false _ _ (c .0);
-      good = not-false _ (d .0);
-      long = eqb-true _ _ (not-false _ (f .0));
-    }
+accepted input =
+    first-elim (λ (r : Reading). r ≡ Drive → Accepted input) Refused (inputTests input) Drive
+    (λ n a e. absurd (let z : _≡_ {A = ℕ} 0 1 = cc in omega arith))
+    (λ none e. record {
+      two = ltb-false _ _ (none 0);
+      most = ltb-false _ _ (none 1);
+      whole = ltb-false _ _ (none 2);
+      good = not-false _ (none 3);
+      long = eqb-true _ _ (not-false _ (none 4));
+    })
 
 -- the same, at what was read of it: the map's length and the header of the lent image
 pub record Taken (input : List ℕ) (len : ℕ) (header : Header) : Type 0 where
@@ -137,13 +114,14 @@ pub record Taken (input : List ℕ) (len : ℕ) (header : Header) : Type 0 where
 pub taken : (input : List ℕ) (len : ℕ) (header : Header) → readingOf input ≡ Drive → len ≡ mapLength input → header ≡ headerOf (take (2 + len - 2) (drop 2 input)) → Taken input len header
 taken input len header r e q =
     let a = accepted input r in
-    let image = image-is input len e (a .two) in
+    let image = image-is input e in
     let count : header .cells ≡ cellCount input = ap (λ (h : Header). h .cells) (q ∙ ap headerOf image) in
     let most = map-header (imageOf input) (a .good) .cells-most in
     record { len-most = omega arith; whole = omega arith; image = image; good = a .good; count = count; count-most = omega arith }
 
 -- the cells that were read are the input's
-pub cells-are : (input : List ℕ) (len count : ℕ) (start cells : List ℕ) → len ≡ mapLength input → count ≡ cellCount input → cells ≡ joinBelow (numberAt input (2 + len)) count ++ drop count start → take count cells ≡ inputCells input
+pub cells-are : (input : List ℕ) (len count : ℕ) (start cells : List ℕ) → len ≡ mapLength input → count ≡ cellCount input
+    → cells ≡ joinBelow (numberAt input (2 + len)) count ++ drop count start → take count cells ≡ inputCells input
 cells-are input len count start cells e n c =
     let front : take count cells ≡ joinBelow (numberAt input (2 + len)) count = rw c (take-at _ _ count (numbers-long input (2 + len) count)) in
     front ∙ rw (e, n)
@@ -157,7 +135,11 @@ cells-long input = numbers-long input _ _
 pub printed-by : (input before after : List ℕ) (r : ℕ) (t : Reading) → readingOf input ≡ t → Put 0 (printed t input) before after r → Printed input before after r
 printed-by input before after r t e p =
     let q : Put 0 (statusOf input) before after r = rw e p in
-    record { count = omega (arith, q .is-next); bytes = q .bytes ∙ ap (λ (k : ℕ). statusOf input ++ drop k before) (zero-add (length (statusOf input))); fits = omega (arith, q .is-next, q .room, q .same) }
+    record {
+      count = omega (arith, q .is-next);
+      bytes = q .bytes ∙ ap (λ (k : ℕ). statusOf input ++ drop k before) (zero-add (length (statusOf input)));
+      fits = omega (arith, q .is-next, q .room, q .same);
+    }
 
 -- ---- every number of the table is below 10,000, so that its decimal reads back (`text`, `decimal-reads`)
 

@@ -4,19 +4,19 @@
 use Prim.Native.Nat.{ℕ, suc, _+_, _-_, _*_, _≤_, _<_}
 use mathlib.Core.Path.{_≡_, refl, sym, ap, _∙_}
 use mathlib.Core.Logic.{⊎-elim}
-use mathlib.Core.Bool.{true, false, cond}
+use mathlib.Core.Bool.{true, false, cond, not}
 use mathlib.Core.List.{List, [], _∷_}
 use native.Mathlib.Omega.{arith}
 use lib.ListN.{length, take, drop}
 use lib.Seq.{take-nil, take-take, length-take-le, getD-take}
 use lib.Dec.{ltb}
-use borrow.Author.Tests.{ltb-true, ltb-false}
+use borrow.Author.Tests.{ltb-false, le-ltb, ne-eqb}
 use Rattle.laws.specs.Tests.{decided}
 use Rattle.endian.specs.Endian.{u16At}
 use Rattle.map.specs.Laws.{map-header}
 use Rattle.map.specs.Map.{mapGood}
 use Rattle.report.specs.Status.{mapLength, imageOf, cellCount, refusedLine, statusOf}
-use Rattle.report.specs.Laws.{long-map, bad-map, not-whole}
+use Rattle.report.specs.Laws.{reading-at}
 
 two-cut : (j : ℕ) (s : List ℕ) → drop 2 (take (suc (suc j)) s) ≡ take j (drop 2 s)
 two-cut j [] = sym (take-nil j)
@@ -32,18 +32,18 @@ module _ (input : List ℕ) (l : 16642 < length input) where
   unfolding late
   too-much =
       let len = mapLength input in
-      let two : 2 ≤ length input = omega arith in
+      let two = le-ltb (length input) 2 (omega arith) in
       ⊎-elim
-      (λ (a : ltb 256 len ≡ true). rw (long-map input len refl two (ltb-true 256 len a), a))
+      (λ (a : ltb 256 len ≡ true). rw (← reading-at input 1 (two, tt) a, a))
       (λ (a : ltb 256 len ≡ false).
       let most : len ≤ 256 = ltb-false 256 len a in
-      let whole : 2 + len ≤ length input = omega arith in
+      let whole = le-ltb (length input) (2 + len) (omega arith) in
       ⊎-elim
       (λ (g : mapGood (imageOf input) ≡ true).
       let cells : cellCount input ≤ 2048 = map-header (imageOf input) g .cells-most in
-      let no : length input ≡ 2 + len + 8 * cellCount input → ⊥ = λ q. omega arith in
-      rw (not-whole input len refl two most whole g no, a, g))
-      (λ (g : mapGood (imageOf input) ≡ false). rw (bad-map input len refl two most whole g, a, g))
+      let no = ne-eqb (length input) (2 + len + 8 * cellCount input) (λ q. omega arith) in
+      rw (← reading-at input 4 (two, (a, (whole, (ap not g, tt)))) (ap not no), a, g))
+      (λ (g : mapGood (imageOf input) ≡ false). rw (← reading-at input 3 (two, (a, (whole, tt))) (ap not g), a, g))
       (decided (mapGood (imageOf input))))
       (decided (ltb 256 len))
 

@@ -1,11 +1,12 @@
 -- Document 01, "The small drive", its last part: what the status program prints for the bytes that it reads. Assumes nothing.
 use Prim.Native.Nat.{ℕ, _+_, _*_, _≤_}
 use mathlib.Core.Path.{_≡_}
-use mathlib.Core.Bool.{cond, not}
+use mathlib.Core.Bool.{Bool, cond, not}
 use mathlib.Core.List.{List, [], _∷_, _++_}
 use lib.ListN.{length, take, drop}
 use lib.Dec.{eqb, ltb}
 use Rattle.laws.specs.Below.{joinBelow}
+use Rattle.laws.specs.Refusals.{firstOf}
 use Rattle.endian.specs.Endian.{u16At, u32At}
 use Rattle.map.specs.Map.{headerOf, entryOf, mapGood}
 use Rattle.partition.specs.declared.State.{State}
@@ -39,16 +40,20 @@ numberAt input from k = u32At input (from + 4 * k) ∷ []
 abbrev pub inputCells : (input : List ℕ) → List ℕ
 inputCells input = joinBelow (numberAt input (2 + mapLength input)) (cellCount input)
 
--- the refusals "in this order": 2 the length is cut short, 1 the length is over 256, 2 the map is cut short, 1 the map is bad, 2 the
--- cells and marks are cut short or anything follows them
+-- the refusals, "in this order: 2 the length is cut short, 1 the length is over 256, 2 the map is cut short, 1 the map is bad, 2 the
+-- cells and marks are cut short or anything follows them"
+abbrev pub inputTests : (input : List ℕ) → List (Bool × ℕ)
+inputTests input =
+    (ltb (length input) 2, 2)
+    ∷ (ltb 256 (mapLength input), 1)
+    ∷ (ltb (length input) (2 + mapLength input), 2)
+    ∷ (not (mapGood (imageOf input)), 1)
+    ∷ (not (eqb (length input) (2 + mapLength input + 8 * cellCount input)), 2)
+    ∷ []
+
+-- the first of them that applies, else a whole drive
 unfoldable pub readingOf : (input : List ℕ) → Reading
-readingOf input =
-    cond (ltb (length input) 2) (Refused 2)
-    (cond (ltb 256 (mapLength input)) (Refused 1)
-    (cond (ltb (length input) (2 + mapLength input)) (Refused 2)
-    (cond (not (mapGood (imageOf input))) (Refused 1)
-    (cond (not (eqb (length input) (2 + mapLength input + 8 * cellCount input))) (Refused 2)
-    Drive))))
+readingOf input = firstOf Refused (inputTests input) Drive
 
 -- ---- the output
 

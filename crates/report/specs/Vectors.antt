@@ -19,7 +19,8 @@ abbrev small : List ℕ
 small = (24 ∷ 0 ∷ image 2 12 60 8 [] two) ++ (1 ∷ replicate 95 0)
 
 small-drive : statusOf small ≡ text "part cells state short\n0 6 programmed 3\n1 6 blank 3\nhek 0\n"
-unfolding readingOf tableOf lineAt lineOf hekLine numberAt decimal surveyAt slotAt openSlot activeSlot stateOf counted shortAt zeroCell mapGood every headerGood fillerGood entryGood placeGood allBelow countBelow firstFrom joinBelow u16At u32At onesIn
+unfolding readingOf tableOf lineAt lineOf hekLine numberAt decimal surveyAt slotAt openSlot activeSlot stateOf counted shortAt zeroCell
+    mapGood every headerGood fillerGood entryGood placeGood allBelow countBelow firstFrom joinBelow u16At u32At onesIn
 small-drive = refl
 
 -- the length cut short; over 256, though nothing follows; the map cut short; a bad map, though the cells are cut short; the marks cut

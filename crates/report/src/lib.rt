@@ -1,7 +1,8 @@
 // The status program's answer: the bytes that it reads go in, the bytes that it prints come out in a
 // lent buffer. Reading, judging and every printed byte are decided here; the program only moves
 // bytes. The definitions are in `specs/Status`, the laws in `specs/Laws` and `specs/Longer`. It rests
-// on `drive`, `reader`, `map`, `partition` and `text`, and below them on `cache`, `endian` and `laws`.
+// on `drive`, `reader`, `map`, `partition` and `text`, and below them on `cache`, `context`, `endian`
+// and `laws`.
 use drive::ActiveSlot;
 use partition::State;
 use partition::Survey;

@@ -1,8 +1,7 @@
--- The answers as numbers, for C: each case of a partition's fields, a listing, an answer, a reply and an engine order. Assumes nothing.
+-- The answers as numbers, for C: each case of a partition's fields, a listing, a place, an answer, a reply and an engine order. Assumes nothing.
 use Prim.Native.Nat.{ℕ}
-use mathlib.Core.Path.{_≡_}
-use mathlib.Core.List.{List}
-use Rattle.cache.specs.Cache.{Cache}
+use Rattle.cache.specs.declared.Place.{Place}
+use Rattle.cache.specs.declared.Place.the-variants.{Empty, Held}
 use Rattle.engine.specs.declared.Order.{Order}
 use Rattle.engine.specs.declared.Order.the-variants.{Nothing, Clear, Load, Unload}
 use Rattle.map.specs.declared.Header.{Header}
@@ -11,21 +10,18 @@ use Rattle.reader.specs.declared.Reading.{Reading}
 use Rattle.reader.specs.declared.Reading.the-variants.{Partition, Refused as NoFields}
 use Rattle.states.specs.declared.Listing.{Listing}
 use Rattle.states.specs.declared.Listing.the-variants.{Listed, Refused as NotListed}
-use Rattle.states.specs.States.{Outcome as ListingOutcome}
 use Rattle.direct.specs.declared.Answer.{Answer}
 use Rattle.direct.specs.declared.Answer.the-variants.{Word, Done, Withheld, Refused as RefusedAnswer}
-use Rattle.direct.specs.Direct.{Outcome as DirectOutcome}
 use Rattle.erasure.specs.declared.Answer.{Answer as Erasure}
 use Rattle.erasure.specs.declared.Answer.the-variants.{Ended, Cut, Refused as RefusedErasure}
-use Rattle.erasure.specs.Erasure.{CutOutcome, Outcome as ErasureOutcome}
 use Rattle.mailbox.specs.declared.Reply.{Reply}
 use Rattle.mailbox.specs.declared.Reply.the-variants.{Refused, Accepted}
-use Rattle.mailbox.specs.Mailbox.{Outcome}
-use Rattle.sciambrunola.specs.declared.SciFields.{SciFields}
-use Rattle.sciambrunola.specs.declared.SciListing.{SciListing}
-use Rattle.sciambrunola.specs.declared.SciAnswer.{SciAnswer}
-use Rattle.sciambrunola.specs.declared.SciErasure.{SciErasure}
-use Rattle.sciambrunola.specs.declared.SciReply.{SciReply}
+use Rattle.sciambrunola.specs.declared.numbers.SciFields.{SciFields}
+use Rattle.sciambrunola.specs.declared.numbers.SciListing.{SciListing}
+use Rattle.sciambrunola.specs.declared.numbers.SciPlace.{SciPlace}
+use Rattle.sciambrunola.specs.declared.numbers.SciAnswer.{SciAnswer}
+use Rattle.sciambrunola.specs.declared.numbers.SciErasure.{SciErasure}
+use Rattle.sciambrunola.specs.declared.numbers.SciReply.{SciReply}
 
 -- the header's P, C and B, then the entry's "first cell", "cells n", kind and flags
 abbrev pub fieldsNumbers : Reading → SciFields
@@ -39,6 +35,11 @@ fieldsNumbers (NoFields number) = record { refusal = number; partitions = 0; cel
 abbrev pub listingNumbers : Listing → SciListing
 listingNumbers (Listed partitions) = record { refusal = 0; partitions = partitions }
 listingNumbers (NotListed number) = record { refusal = number; partitions = 0 }
+
+-- "each empty or holding a 64-bit tag"
+abbrev pub placeNumbers : Place → SciPlace
+placeNumbers Empty = record { kind = 0; tag = 0 }
+placeNumbers (Held tag) = record { kind = 1; tag = tag }
 
 -- "the answer is a word, done, withheld, or refused with its number"
 abbrev pub answerNumbers : Answer → SciAnswer
@@ -65,33 +66,3 @@ orderNumbers length (Unload place timeout) = record { refusal = 0; length = leng
 abbrev pub replyNumbers : Reply → SciReply
 replyNumbers (Refused number) = record { refusal = number; length = 0; order = 0; place = 0; timeout = 0 }
 replyNumbers (Accepted length order) = orderNumbers length order
-
--- a listing told its answer, and left both arrays, as the definition has them
-pub record ListingTold (r : SciListing) (states shorts : List ℕ) (listing : ListingOutcome) : Type 0 where
-  pub answer : r ≡ listingNumbers (listing .answer)
-  pub states-left : states ≡ listing .states
-  pub shorts-left : shorts ≡ listing .shorts
-
--- a direct command told its answer, and left the cells, as the definition has them
-pub record Told (r : SciAnswer) (cells : List ℕ) (direct : DirectOutcome) : Type 0 where
-  pub answer : r ≡ answerNumbers (direct .answer)
-  pub cells-left : cells ≡ direct .cells
-
--- an erasure told its answer, and left the cells, as the definition has them
-pub record ErasureTold (r : SciErasure) (cells : List ℕ) (erasure : ErasureOutcome) : Type 0 where
-  pub answer : r ≡ erasureNumbers (erasure .answer)
-  pub cells-left : cells ≡ erasure .cells
-
--- and so did a cut one, which may also empty the cache
-pub record CutTold (r : SciErasure) (cells : List ℕ) (cache : Cache) (cut : CutOutcome) : Type 0 where
-  pub answer : r ≡ erasureNumbers (cut .answer)
-  pub cells-left : cells ≡ cut .cells
-  pub cache-left : cache ≡ cut .cache
-
--- a call told its reply, and left everything that it was lent, as the definition has it
-pub record Called (r : SciReply) (cells : List ℕ) (cache : Cache) (response block : List ℕ) (call : Outcome) : Type 0 where
-  pub reply : r ≡ replyNumbers (call .reply)
-  pub cells-left : cells ≡ call .cells
-  pub cache-left : cache ≡ call .cache
-  pub response-left : response ≡ call .response
-  pub block-left : block ≡ call .block

@@ -3,7 +3,8 @@ use Prim.Native.Nat.{ℕ}
 use mathlib.Core.List.{List, [], _∷_, _++_}
 use lib.ListN.{drop}
 use Rattle.laws.specs.Below.{joinBelow}
-use Rattle.laws.specs.Refusals.{lowest}
+use Rattle.laws.specs.Refusals.{firstOf}
+use Rattle.context.specs.State.{Outcome, outcome, refusing}
 use Rattle.map.specs.Map.{headerOf}
 use Rattle.partition.specs.declared.State.{State}
 use Rattle.partition.specs.declared.State.the-variants.{Erased, Torn, Blank, Programmed}
@@ -32,22 +33,16 @@ statesAfter image cells before = joinBelow (stateIn image cells) (headerOf image
 abbrev pub shortsAfter : (image cells before : List ℕ) → List ℕ
 shortsAfter image cells before = joinBelow (shortIn image cells) (headerOf image .partitions) ++ drop (headerOf image .partitions) before
 
--- the answer, and both arrays afterwards
-pub record Outcome : Type 0 where
-  pub answer : Listing
+-- the two arrays that a listing is lent
+pub record Lists : Type 0 where
   pub states : List ℕ
   pub shorts : List ℕ
 
--- what a listing left
-abbrev pub left : Listing → (states shorts : List ℕ) → Outcome
-left answer states shorts = record { answer = answer; states = states; shorts = shorts }
-
--- a refusal writes nothing
-abbrev pub refusedOf : (states shorts : List ℕ) (number : ℕ) → Outcome
-refusedOf states shorts number = left (Refused number) states shorts
+abbrev pub lists : (states shorts : List ℕ) → Lists
+lists states shorts = record { states = states; shorts = shorts }
 
 -- every partition listed, or the lowest refusal that applies: 1 or 2
-abbrev pub listingOf : (image cells marks states shorts : List ℕ) → Outcome
-listingOf image cells marks states shorts =
-    lowest (refusedOf states shorts) (driveTests image cells marks)
-    (left (Listed (headerOf image .partitions)) (statesAfter image cells states) (shortsAfter image cells shorts))
+abbrev pub listingOf : (image cells marks : List ℕ) → Lists → Outcome Listing Lists
+listingOf image cells marks l =
+    firstOf (refusing Refused l) (driveTests image cells marks)
+    (outcome (Listed (headerOf image .partitions)) (lists (statesAfter image cells (l .states)) (shortsAfter image cells (l .shorts))))

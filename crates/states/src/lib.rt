@@ -1,15 +1,16 @@
 // The state and the short pairs of every partition of a drive, in one call, as numbers in two lent
 // arrays: what a caller of the library asks a drive. The map is judged once for all partitions. The
 // definitions are in `specs/States`, the laws in `specs/Laws`. It rests on `drive`, `map` and
-// `partition`, and below them on `cache`, `endian` and `laws`.
+// `partition`, and below them on `cache`, `context`, `endian` and `laws`.
 use drive::Check;
 use partition::State;
 ghost use mathlib.Core.Path.{_≡_};
 ghost use Prim.Native.Nat.{_≤_};
 ghost use lib.ListN.{length};
+ghost use Rattle.context.specs.State.{outcome};
 ghost use Rattle.map.specs.Map.{headerOf};
 ghost use Rattle.drive.specs.Drive.{Whole};
-ghost use Rattle.states.specs.States.{stateNumber, statesAfter, shortsAfter, left, listingOf};
+ghost use Rattle.states.specs.States.{stateNumber, statesAfter, shortsAfter, lists, listingOf};
 
 // How many partitions were listed, or the refusal's number.
 pub enum Listing {
@@ -57,7 +58,8 @@ pub fn list_states(
     states: &mut [u32; 16],
     shorts: &mut [u32; 16],
 ) -> Listing
-    ensures { λ r. ⌜ left r (now (states .exit)) (now (shorts .exit)) ≡ listingOf (now (image .entry)) (now (cells .entry)) (now (marks .entry)) (now (states .entry)) (now (shorts .entry)) ⌝ }
+    ensures { λ r. ⌜ outcome r (lists (now (states .exit)) (now (shorts .exit)))
+        ≡ listingOf (now (image .entry)) (now (cells .entry)) (now (marks .entry)) (lists (now (states .entry)) (now (shorts .entry))) ⌝ }
 {
     match drive::check_drive(image, cells, marks) {
         Check::Refused(number) => Listing::Refused(number),

@@ -10,8 +10,11 @@
 
 #include <string.h>
 
-static uint8_t kinds[SCI_PLACES];
-static uint64_t tags[SCI_PLACES];
+static sci_context context = {0};
+/* Where the archive has the kinds and the tags of the places. A caller leaves them
+ * alone; here they make contexts that no calls leave. */
+static uint64_t *const kinds = context.words;
+static uint64_t *const tags = context.words + SCI_PLACES;
 
 static void print_answer(const char *name, sci_answer answer)
 {
@@ -34,6 +37,11 @@ static void print_reply(const char *name, sci_reply reply)
            name, reply.refusal, reply.length, reply.order, reply.place, reply.timeout);
 }
 
+static void print_place(const char *name, sci_place place)
+{
+    printf("%s: kind %" PRIu32 ", tag %" PRIu64 "\n", name, place.kind, place.tag);
+}
+
 static void print_bytes(const char *name, const uint8_t *bytes, size_t count)
 {
     size_t i;
@@ -48,7 +56,7 @@ static sci_reply ask(uint32_t code, const uint8_t *request, size_t request_bytes
                      uint8_t *response, size_t response_bytes)
 {
     uint8_t block[SCI_BLOCK_BYTES] = {0};
-    return sci_mailbox(image, sizeof image, cells, CELLS, marks, CELLS, kinds, tags, code,
+    return sci_mailbox(image, sizeof image, cells, CELLS, marks, CELLS, &context, code,
                        request, request_bytes, response, response_bytes, block, sizeof block);
 }
 
@@ -65,13 +73,13 @@ static void ask_for_status(void)
 
 static void direct_commands(void)
 {
-    print_answer("READ 0", sci_read(image, sizeof image, cells, CELLS, marks, CELLS, kinds, tags, 0));
+    print_answer("READ 0", sci_read(image, sizeof image, cells, CELLS, marks, CELLS, &context, 0));
     print_answer("WRITE 7",
-                 sci_write(image, sizeof image, cells, CELLS, marks, CELLS, kinds, tags, 7, 0x89));
+                 sci_write(image, sizeof image, cells, CELLS, marks, CELLS, &context, 7, 0x89));
     print_answer("WRITE 0",
-                 sci_write(image, sizeof image, cells, CELLS, marks, CELLS, kinds, tags, 0, 5));
+                 sci_write(image, sizeof image, cells, CELLS, marks, CELLS, &context, 0, 5));
     print_answer("ZEROIZE 6",
-                 sci_zeroize(image, sizeof image, cells, CELLS, marks, CELLS, kinds, tags, 6));
+                 sci_zeroize(image, sizeof image, cells, CELLS, marks, CELLS, &context, 6));
     print_cells();
 }
 
@@ -84,10 +92,12 @@ static void unload_of_another_kind(void)
     tags[0] = 5; /* place 0 is empty, so this is not looked at */
     kinds[2] = 9;
     tags[2] = 5;
+    print_place("place 0 is told", sci_cache_place(&context, 0));
+    print_place("place 2 is told", sci_cache_place(&context, 2));
     print_answer("WRITE 0 with a key held",
-                 sci_write(image, sizeof image, cells, CELLS, marks, CELLS, kinds, tags, 0, 7));
+                 sci_write(image, sizeof image, cells, CELLS, marks, CELLS, &context, 0, 7));
     print_reply("KUNL", ask(SCI_KUNL, request, sizeof request, response, sizeof response));
-    printf("place 2: kind %u, tag %" PRIu64 "\n", (unsigned)kinds[2], tags[2]);
+    printf("place 2: kind %" PRIu64 ", tag %" PRIu64 "\n", kinds[2], tags[2]);
 }
 
 /* A restart empties the places that are held, of whatever kind, and clears the
@@ -97,7 +107,7 @@ static void restart(void)
     unsigned held = 0;
     size_t i;
     kinds[15] = 9;
-    sci_restart(kinds, tags);
+    sci_restart(&context);
     for (i = 0; i < SCI_PLACES; i++) {
         held += kinds[i] != 0 || tags[i] != 0;
     }
@@ -115,7 +125,7 @@ static void begin_again(size_t cell, uint32_t mark)
 
 static sci_erasure erase(uint32_t partition)
 {
-    return sci_erase(image, sizeof image, cells, CELLS, marks, CELLS, kinds, tags, partition);
+    return sci_erase(image, sizeof image, cells, CELLS, marks, CELLS, &context, partition);
 }
 
 static void erase_by_mailbox(void)
@@ -139,9 +149,9 @@ static void erase_with_stuck_fuses(void)
     begin_again(0, 0);
     print_erasure("erasure of partition 1", erase(1));
     print_erasure("erasure of partition 2", erase(2));
-    kinds[2] = 9;
+    kinds[2] = UINT64_C(1) << 32;
     print_erasure("erasure with a key held", erase(0));
-    sci_restart(kinds, tags);
+    sci_restart(&context);
     print_cells();
 }
 
@@ -150,8 +160,8 @@ static void erase_cut(void)
     begin_again(0, 0);
     tags[7] = 5; /* place 7 is empty, so this is not looked at, but cleared */
     print_erasure("erasure cut at 1", sci_erase_cut(image, sizeof image, cells, CELLS, marks, CELLS,
-                                                    kinds, tags, 0, 1, UINT32_C(0xFFFFFFFF)));
-    printf("place 7: kind %u, tag %" PRIu64 "\n", (unsigned)kinds[7], tags[7]);
+                                                    &context, 0, 1, UINT32_C(0xFFFFFFFF)));
+    printf("place 7: kind %" PRIu64 ", tag %" PRIu64 "\n", kinds[7], tags[7]);
     print_cells();
     print_erasure("erasure again", erase(0));
     print_cells();

@@ -4,6 +4,7 @@
 
 pub mod calls;
 pub mod compare;
+pub mod context;
 pub mod copy;
 pub mod cores;
 pub mod counts;

@@ -6,30 +6,30 @@ use model::mailbox::fields::Command as Mail;
 use model::mailbox::request::{Request, Values};
 use model::map::Map;
 use sciambrunola::{direct, erase, erase_cut, mailbox, partition, states};
-use sciambrunola::{Answer, Cache, Command, Erasure, Fields, Reply, State, States};
+use sciambrunola::{Answer, Command, Context, Erasure, Fields, Reply, State, States};
 use sciambrunola::{BLOCK_BYTES, LEAST_RESPONSE};
 
 /// The partition that is a slot; the other one is software.
 pub const SLOT: u32 = 0;
 
-/// The small drive with its cache, engine block and response buffer.
+/// The small drive with its context, engine block and response buffer.
 pub struct Small {
     drive: Drive,
-    pub cache: Cache,
+    pub context: Context,
     block: [u8; BLOCK_BYTES],
     pub response: [u8; LEAST_RESPONSE],
 }
 
 impl Small {
     /// Block and response buffer hold bytes that no answer has.
-    pub fn new(cache: Cache) -> Small {
+    pub fn new(context: Context) -> Small {
         let (block, response) = ([0xB1; BLOCK_BYTES], [0xA5; LEAST_RESPONSE]);
-        Small { drive: Drive::small(), cache, block, response }
+        Small { drive: Drive::small(), context, block, response }
     }
 
-    /// The drive with an empty cache and this mark on a cell.
+    /// The drive with no key held and this mark on a cell.
     pub fn marked(cell: usize, mark: u32) -> Small {
-        let mut small = Small::new(Cache::default());
+        let mut small = Small::new(Context::new());
         small.drive.marks[cell] = mark;
         small
     }
@@ -50,22 +50,22 @@ impl Small {
     /// Carries out a direct command.
     #[inline(always)]
     pub fn direct(&mut self, command: Command) -> Answer {
-        let Small { drive, cache, .. } = self;
-        direct(&drive.image, &mut drive.cells, &drive.marks, cache, command)
+        let Small { drive, context, .. } = self;
+        direct(&drive.image, &mut drive.cells, &drive.marks, context, command)
     }
 
     /// Erases the slot.
     #[inline(always)]
     pub fn erase(&mut self) -> Erasure {
-        let Small { drive, cache, .. } = self;
-        erase(&drive.image, &mut drive.cells, &drive.marks, cache, SLOT)
+        let Small { drive, context, .. } = self;
+        erase(&drive.image, &mut drive.cells, &drive.marks, context, SLOT)
     }
 
     /// Erases the slot, cut at burn `k`.
     #[inline(always)]
     pub fn erase_cut(&mut self, k: u32, mask: u64) -> Erasure {
-        let Small { drive, cache, .. } = self;
-        erase_cut(&drive.image, &mut drive.cells, &drive.marks, cache, SLOT, k, mask)
+        let Small { drive, context, .. } = self;
+        erase_cut(&drive.image, &mut drive.cells, &drive.marks, context, SLOT, k, mask)
     }
 
     /// Carries out a mailbox command.
@@ -75,7 +75,7 @@ impl Small {
             &self.drive.image,
             &mut self.drive.cells,
             &self.drive.marks,
-            &mut self.cache,
+            &mut self.context,
             request.code,
             &request.bytes,
             &mut self.response,

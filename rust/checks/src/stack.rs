@@ -3,11 +3,13 @@
 //! mailbox commands refused; and of the calls that only read. It says something
 //! in an optimised build alone.
 
+use crate::context;
 use crate::painted::depth;
 use crate::small::Small;
+use model::lent::Lent;
 use model::mailbox::fields::Command;
 use model::mailbox::request::{Request, Values};
-use sciambrunola::{Answer, Cache, Erasure, Fields, Reply, States, PLACES};
+use sciambrunola::{Answer, Context, Erasure, Fields, Reply, States};
 
 /// A software word of the small drive, which READ and WRITE may touch, and a
 /// slot word, which ZEROIZE may.
@@ -23,6 +25,7 @@ pub fn of_every_call() -> Vec<Used> {
     vec![
         ("fields", of_fields()),
         ("states", of_states()),
+        ("place", of_place()),
         ("READ", of_direct(Read { cell: SOFTWARE_WORD })),
         ("WRITE", of_direct(Write { cell: SOFTWARE_WORD, value: 5 })),
         ("ZEROIZE", of_direct(Zeroize { cell: SLOT_WORD })),
@@ -46,11 +49,11 @@ pub fn listed(used: &[Used]) -> String {
     each.join(", ")
 }
 
-/// The small drive with this tag held in one place, or with an empty cache.
+/// The small drive with this tag held in place 9, or with an empty cache.
 fn small(held: Option<u64>) -> Small {
-    let mut places = [None; PLACES];
-    places[9] = held;
-    Small::new(Cache::from_places(places))
+    let mut lent = Lent::default();
+    lent.cache.places[9] = held;
+    Small::new(context::of(&lent))
 }
 
 /// The stack of the slot's fields, which are told.
@@ -61,6 +64,11 @@ fn of_fields() -> usize {
 /// The stack of the states, which are listed.
 fn of_states() -> usize {
     measured(None, true, |small| matches!(small.states(), States::Listed(_)))
+}
+
+/// The stack of a place of the cache, which is held.
+fn of_place() -> usize {
+    measured(Some(1), true, |small| small.context.place(9) == Some(1))
 }
 
 /// The stack of a direct command, which is carried out.
@@ -74,11 +82,12 @@ fn of_erasure(call: impl Fn(&mut Small) -> Erasure) -> usize {
     measured(None, true, |small| !matches!(call(small), Erasure::Refused { .. }))
 }
 
-/// The stack of a restart with a key held; a restart always ends with none.
+/// The stack of a restart with a key held; a restart always ends as a drive starts.
 fn of_restart() -> usize {
+    static STARTED: Context = Context::new();
     let emptied = |small: &mut Small| {
-        sciambrunola::restart(&mut small.cache);
-        small.cache == Cache::default()
+        sciambrunola::restart(&mut small.context);
+        small.context == STARTED
     };
     measured(Some(1), true, emptied)
 }

@@ -22,6 +22,7 @@ fn archive_defines_the_headers_functions_for_others_and_no_more() {
     let mut defined = symbols(&["-g", "--defined-only"]);
     defined.sort();
     let header = [
+        "sci_cache_place",
         "sci_erase",
         "sci_erase_cut",
         "sci_mailbox",

@@ -14,6 +14,8 @@ WRITE 7: kind 0, refusal 0, word 137
 WRITE 0: kind 1, refusal 0, word 0
 ZEROIZE 6: kind 3, refusal 8, word 0
 cells: 5 0 0 0 0 0 0 89 0 0 0 0
+place 0 is told: kind 0, tag 0
+place 2 is told: kind 1, tag 5
 WRITE 0 with a key held: kind 3, refusal 10, word 0
 KUNL: refusal 0, length 12, order 3, place 2, timeout 6
 place 2: kind 0, tag 0

@@ -1,6 +1,7 @@
 //! The names of the C header and of the safe Rust calls have document 01's
-//! numbers. The kinds of answers, the states and the orders have none there; theirs
-//! are the archive's, which `c_caller`, `calls` and `readings` see in its answers.
+//! numbers. The kinds of answers and of places, the states, the orders and the words
+//! of a context have none there; theirs are the archive's, which `c_caller`,
+//! `cache_places`, `calls` and `readings` see in its answers.
 
 use checks::runner::in_repository;
 use checks::tools::{compiled, printed};
@@ -12,6 +13,7 @@ use std::process::Command;
 /// Every name of the header in its order, with its number in hexadecimal.
 const HEADER: &str = "\
 SCI_PLACES 10
+SCI_CONTEXT_WORDS 20
 SCI_BLOCK_BYTES 80
 SCI_LEAST_RESPONSE 14
 SCI_PARTITIONS 10
@@ -40,6 +42,8 @@ SCI_STATE_ERASED 0
 SCI_STATE_TORN 1
 SCI_STATE_BLANK 2
 SCI_STATE_PROGRAMMED 3
+SCI_PLACE_EMPTY 0
+SCI_PLACE_HELD 1
 SCI_WORD 0
 SCI_DONE 1
 SCI_WITHHELD 2
@@ -94,5 +98,19 @@ fn other_names_of_the_safe_calls_have_the_documents_numbers() {
     assert_eq!([flag::ZEROIZABLE, flag::SECRET, flag::SLOT], [1, 2, 4]);
     assert_eq!([sciambrunola::BLOCK_BYTES, sciambrunola::LEAST_RESPONSE], [128, 20]);
     assert_eq!([sciambrunola::PLACES, sciambrunola::PARTITIONS], [16, 16]);
+    let bytes = std::mem::size_of::<sciambrunola::Context>();
+    assert_eq!([sciambrunola::CONTEXT_WORDS, bytes], [32, 256]);
     assert_eq!([sciambrunola::NO_CELL, sciambrunola::NO_SLOT], [0xFFFF_FFFF; 2]);
+}
+
+/// The archive is lent a context by its address alone, so its own number of words is
+/// read where it is written.
+#[test]
+fn a_context_has_the_words_that_the_archive_asks_for() {
+    let source = fs::read_to_string(in_repository("crates/context/src/lib.rt"));
+    let source = source.expect("the source can be read");
+    let number = |line: &str| {
+        line.strip_prefix("pub const WORDS: usize = ")?.strip_suffix(';')?.parse().ok()
+    };
+    assert_eq!(source.lines().find_map(number), Some(sciambrunola::CONTEXT_WORDS));
 }

@@ -6,7 +6,7 @@ use checks::calls::erasures::low_bits;
 use checks::runner::{self, in_repository};
 use drives::Drive;
 use model::map::Map;
-use sciambrunola::{erase, erase_cut, Cache};
+use sciambrunola::{erase, erase_cut, Context};
 use std::collections::BTreeSet;
 use std::fs;
 
@@ -108,11 +108,11 @@ fn erasures_of_the_small_drive_leave_the_samples_cells() {
         let sample = drive(name);
         assert_eq!(sample.image(), small.image(), "{name}");
         let (image, mut cells, marks) = (sample.image(), small.cells().to_vec(), sample.marks());
-        let mut cache = Cache::default();
+        let mut context = Context::new();
         match erasure {
-            Erasure::Uncut => erase(image, &mut cells, marks, &cache, 0),
+            Erasure::Uncut => erase(image, &mut cells, marks, &mut context, 0),
             Erasure::Cut(k, low) => {
-                erase_cut(image, &mut cells, marks, &mut cache, 0, k, low_bits(low))
+                erase_cut(image, &mut cells, marks, &mut context, 0, k, low_bits(low))
             }
         };
         assert_eq!(cells, sample.cells(), "{name}");
@@ -127,8 +127,8 @@ fn erasures_of_other_drives_leave_the_samples_cells() {
         let mut cells = sample.cells().to_vec();
         for &partition in partitions {
             cells[map.entries()[partition].range()].fill(0);
-            let cache = Cache::default();
-            erase(sample.image(), &mut cells, sample.marks(), &cache, partition as u32);
+            let context = &mut Context::new();
+            erase(sample.image(), &mut cells, sample.marks(), context, partition as u32);
         }
         assert_eq!(cells, sample.cells(), "{name}");
     }

@@ -5,7 +5,7 @@ use crate::map::{Header, Map, HARDWARE, SOFTWARE};
 
 /// "Burning and counting": a map image with its "two lent runs of 32-bit
 /// numbers". Nothing is checked: a drive may be a bad one.
-#[derive(Clone, Debug, PartialEq, Eq)]
+#[derive(Clone, Debug, Default, PartialEq, Eq)]
 pub struct Drive {
     /// The map image.
     pub image: Vec<u8>,

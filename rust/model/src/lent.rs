@@ -5,8 +5,9 @@ use crate::cache::Cache;
 use crate::drive::Drive;
 
 /// What a call finds, or what it leaves. Nothing is checked: any part may have
-/// any length. Direct commands neither see nor change the last two.
-#[derive(Clone, Debug, PartialEq, Eq)]
+/// any length. Direct commands neither see nor change the last two. By default
+/// every part is empty.
+#[derive(Clone, Debug, Default, PartialEq, Eq)]
 pub struct Lent {
     /// "Burning and counting": map image, fuse cells and stuck marks.
     pub drive: Drive,

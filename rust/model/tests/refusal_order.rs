@@ -12,10 +12,11 @@ use model::refusal;
 
 /// The small drive with a full cache and no HEK, its slot being erased.
 fn full_and_erased() -> Lent {
-    let mut drive = Drive::small();
-    drive.cells[..6].fill(u32::MAX);
-    let cache = Cache { places: [Some(9); 16] };
-    Lent { drive, cache, block: vec![0xB1; 128], response: vec![0xA5; 20] }
+    let (block, response) = (vec![0xB1; 128], vec![0xA5; 20]);
+    let mut lent = Lent { drive: Drive::small(), block, response, ..Lent::default() };
+    lent.drive.cells[..6].fill(u32::MAX);
+    lent.cache.places = [Some(9); 16];
+    lent
 }
 
 fn request(command: Command, tag: u64, reserved: u32) -> Request {

@@ -33,7 +33,7 @@ pub enum Erasure {
         /// The burns carried out, one for each word.
         burns: u32,
     },
-    /// The power failed, and the cache is empty. Erase again.
+    /// The power failed, and the key cache is empty. Erase again.
     Cut {
         /// The burns carried out, the one that was cut included.
         burns: u32,
@@ -90,6 +90,7 @@ pub enum Reply {
 }
 
 impl Answer {
+    #[inline]
     pub(crate) fn from_raw(answer: raw::Answer) -> Answer {
         match answer.kind {
             raw::WORD => Answer::Word(answer.word),
@@ -101,6 +102,7 @@ impl Answer {
 }
 
 impl Erasure {
+    #[inline]
     pub(crate) fn from_raw(erasure: raw::Erasure) -> Erasure {
         let raw::Erasure { kind, refusal, short_pairs, first_short, burns } = erasure;
         let first_short = (first_short != NO_CELL).then_some(first_short);
@@ -113,6 +115,7 @@ impl Erasure {
 }
 
 impl Reply {
+    #[inline]
     pub(crate) fn from_raw(reply: raw::Reply) -> Reply {
         let raw::Reply { place, timeout, .. } = reply;
         if reply.refusal != 0 {

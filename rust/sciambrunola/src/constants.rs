@@ -4,6 +4,8 @@
 pub const BLOCK_BYTES: usize = 128;
 /// The bytes of the shortest response buffer that is accepted.
 pub const LEAST_RESPONSE: usize = 20;
+/// The words of a [`Context`](crate::Context).
+pub const CONTEXT_WORDS: usize = 32;
 /// The places of the key cache.
 pub const PLACES: usize = 16;
 /// The most partitions that a map has.

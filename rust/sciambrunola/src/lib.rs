@@ -8,6 +8,9 @@
 //! of document 01; `include/sciambrunola.h` has them in short. The work itself is done by the
 //! proved archive; here are only the types that make its calls safe.
 //!
+//! It has no memory of its own: what it keeps between calls is in a [`Context`],
+//! which is the caller's.
+//!
 //! The archive is built for x86-64 Linux (System V calling convention),
 //! position-independent, with no heap, no C library and no undefined symbol, so
 //! this package runs there and needs no more than `core`.
@@ -16,17 +19,18 @@
 #![deny(unsafe_code)]
 
 mod answer;
-mod cache;
 mod constants;
+mod context;
 mod fields;
 #[allow(unsafe_code)]
 mod raw;
 mod states;
 
 pub use answer::{Answer, Erasure, Order, Reply};
-pub use cache::Cache;
 pub use constants::{code, flag, kind, refusal};
-pub use constants::{BLOCK_BYTES, LEAST_RESPONSE, NO_CELL, NO_SLOT, PARTITIONS, PLACES};
+pub use constants::{BLOCK_BYTES, CONTEXT_WORDS, LEAST_RESPONSE, PARTITIONS, PLACES};
+pub use constants::{NO_CELL, NO_SLOT};
+pub use context::Context;
 pub use fields::Fields;
 pub use states::{Listing, State, States};
 
@@ -70,19 +74,21 @@ pub fn states(image: &[u8], cells: &[u32], marks: &[u32]) -> States {
 /// Carries out a direct command on the fuses that `image` maps.
 ///
 /// `cells` and `marks` are the fuse cells and their stuck marks. Only the
-/// fuses of the word that is named may change, and none on refusal.
+/// fuses of the word that is named may change, and none on refusal; the context
+/// stays as it is.
+#[inline]
 pub fn direct(
     image: &[u8],
     cells: &mut [u32],
     marks: &[u32],
-    cache: &Cache,
+    context: &mut Context,
     command: Command,
 ) -> Answer {
-    let drive = raw::Drive { image, cells, marks };
+    let drive = raw::Drive { image, cells, marks, context };
     Answer::from_raw(match command {
-        Command::Read { cell } => raw::read(drive, cache, cell),
-        Command::Write { cell, value } => raw::write(drive, cache, cell, value),
-        Command::Zeroize { cell } => raw::zeroize(drive, cache, cell),
+        Command::Read { cell } => raw::read(drive, cell),
+        Command::Write { cell, value } => raw::write(drive, cell, value),
+        Command::Zeroize { cell } => raw::zeroize(drive, cell),
     })
 }
 
@@ -90,44 +96,47 @@ pub fn direct(
 /// stuck, the indicator first, then the data words ascending, then the digest.
 ///
 /// A short word does not stop it; a short indicator does, with refusal 15, which
-/// leaves the indicator burned. Any other refusal changes nothing.
+/// leaves the indicator burned. Any other refusal changes nothing. The context
+/// stays as it is.
 ///
 /// It may end with the partition torn: see [`Erasure::Ended`].
+#[inline]
 pub fn erase(
     image: &[u8],
     cells: &mut [u32],
     marks: &[u32],
-    cache: &Cache,
+    context: &mut Context,
     partition: u32,
 ) -> Erasure {
-    Erasure::from_raw(raw::erase(raw::Drive { image, cells, marks }, cache, partition))
+    Erasure::from_raw(raw::erase(raw::Drive { image, cells, marks, context }, partition))
 }
 
 /// The same erasure where the power fails at burn `k`, counted from 0: that burn
 /// has `mask` in place of all ones, of which a 32-bit word takes the low 32
-/// bits, nothing follows, and the cache is emptied.
+/// bits, nothing follows, and the key cache is emptied.
 ///
 /// Where the erasure ends before burn `k`, or is refused, it is [`erase`], and
-/// the cache stays as it is.
+/// the context stays as it is.
+#[inline]
 pub fn erase_cut(
     image: &[u8],
     cells: &mut [u32],
     marks: &[u32],
-    cache: &mut Cache,
+    context: &mut Context,
     partition: u32,
     k: u32,
     mask: u64,
 ) -> Erasure {
-    let drive = raw::Drive { image, cells, marks };
-    Erasure::from_raw(raw::erase_cut(drive, cache, partition, k, mask))
+    let drive = raw::Drive { image, cells, marks, context };
+    Erasure::from_raw(raw::erase_cut(drive, partition, k, mask))
 }
 
-/// For when the drive has restarted, and the engine with it: empties the cache,
-/// and changes nothing else.
+/// For when the drive has restarted, and the engine with it: empties the key
+/// cache, and changes nothing else.
 ///
 /// No order is given to the engine. To free a slot in operation use KUNL or CLKC.
-pub fn restart(cache: &mut Cache) {
-    raw::restart(cache);
+pub fn restart(context: &mut Context) {
+    raw::restart(context);
 }
 
 /// Carries out the mailbox command that `code` names (see [`code`]), with this
@@ -135,21 +144,22 @@ pub fn restart(cache: &mut Cache) {
 ///
 /// An accepted command writes its response to the start of `response` and,
 /// where it has an order for the engine, the engine block to `block`. Nothing
-/// else changes but the cache and, by FERS, which is [`erase`], the cells; and
+/// else changes but the key cache and, by FERS, which is [`erase`], the cells; and
 /// nothing at all on refusal, 15 excepted. FERS that is accepted has erased the
 /// partition only if the response's short pairs are 0.
 #[allow(clippy::too_many_arguments)]
+#[inline]
 pub fn mailbox(
     image: &[u8],
     cells: &mut [u32],
     marks: &[u32],
-    cache: &mut Cache,
+    context: &mut Context,
     code: u32,
     request: &[u8],
     response: &mut [u8],
     block: &mut [u8],
 ) -> Reply {
-    let drive = raw::Drive { image, cells, marks };
+    let drive = raw::Drive { image, cells, marks, context };
     let buffers = raw::Buffers { request, response, block };
-    Reply::from_raw(raw::mailbox(drive, cache, code, buffers))
+    Reply::from_raw(raw::mailbox(drive, code, buffers))
 }

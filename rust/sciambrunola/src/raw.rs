@@ -5,8 +5,8 @@
 //! valid for its count, and a buffer that a call may write is borrowed mutably,
 //! so it overlaps no other. Shared slices may be the same or overlap.
 
-use crate::cache::Cache;
 use crate::constants::PARTITIONS;
+use crate::context::Context;
 
 pub(crate) const STATE_ERASED: u32 = 0;
 pub(crate) const STATE_TORN: u32 = 1;
@@ -18,6 +18,8 @@ pub(crate) const WITHHELD: u32 = 2;
 
 pub(crate) const ENDED: u32 = 0;
 pub(crate) const CUT: u32 = 1;
+
+pub(crate) const PLACE_EMPTY: u32 = 0;
 
 pub(crate) const CLEAR: u32 = 1;
 pub(crate) const LOAD: u32 = 2;
@@ -41,6 +43,13 @@ pub(crate) struct Fields {
 pub(crate) struct Listing {
     pub(crate) refusal: u32,
     pub(crate) partitions: u32,
+}
+
+/// `sci_place`
+#[repr(C)]
+pub(crate) struct Place {
+    pub(crate) kind: u32,
+    pub(crate) tag: u64,
 }
 
 /// `sci_answer`
@@ -71,11 +80,13 @@ pub(crate) struct Reply {
     pub(crate) timeout: u32,
 }
 
-/// A drive as most functions are lent it, with cells that they may change.
+/// A drive as most functions are lent it, with cells and a context that they may
+/// change.
 pub(crate) struct Drive<'a> {
     pub(crate) image: &'a [u8],
     pub(crate) cells: &'a mut [u32],
     pub(crate) marks: &'a [u32],
+    pub(crate) context: &'a mut Context,
 }
 
 /// What the mailbox is lent besides.
@@ -86,7 +97,8 @@ pub(crate) struct Buffers<'a> {
 }
 
 /// Declares functions of the archive that are lent a drive. Before the parameters
-/// that stand here they have the drive's: each part's pointer, then its count.
+/// that stand here they have the drive's: each part's pointer, then its count; the
+/// context has none.
 macro_rules! lent_a_drive {
     ($(fn $function:ident($($parameter:ident: $type:ty),*) -> $answer:ty;)*) => {
         extern "C" {
@@ -97,6 +109,7 @@ macro_rules! lent_a_drive {
                 cell_count: usize,
                 marks: *const u32,
                 mark_count: usize,
+                context: *mut Context,
                 $($parameter: $type),*
             ) -> $answer;)*
         }
@@ -104,20 +117,12 @@ macro_rules! lent_a_drive {
 }
 
 lent_a_drive! {
-    fn sci_read(kinds: *const u8, tags: *const u64, cell: u32) -> Answer;
-    fn sci_write(kinds: *const u8, tags: *const u64, cell: u32, value: u64) -> Answer;
-    fn sci_zeroize(kinds: *const u8, tags: *const u64, cell: u32) -> Answer;
-    fn sci_erase(kinds: *const u8, tags: *const u64, partition: u32) -> Erasure;
-    fn sci_erase_cut(
-        kinds: *mut u8,
-        tags: *mut u64,
-        partition: u32,
-        k: u32,
-        mask: u64
-    ) -> Erasure;
+    fn sci_read(cell: u32) -> Answer;
+    fn sci_write(cell: u32, value: u64) -> Answer;
+    fn sci_zeroize(cell: u32) -> Answer;
+    fn sci_erase(partition: u32) -> Erasure;
+    fn sci_erase_cut(partition: u32, k: u32, mask: u64) -> Erasure;
     fn sci_mailbox(
-        kinds: *mut u8,
-        tags: *mut u64,
         code: u32,
         request: *const u8,
         request_bytes: usize,
@@ -142,15 +147,17 @@ extern "C" {
         short_pairs: *mut u32,
     ) -> Listing;
 
-    fn sci_restart(kinds: *mut u8, tags: *mut u64);
+    fn sci_cache_place(context: *const Context, place: u32) -> Place;
+
+    fn sci_restart(context: *mut Context);
 }
 
 /// Calls a function of the archive with the parts of a drive, each pointer
 /// with its count, before its other arguments.
 macro_rules! call {
     ($function:ident, $drive:expr $(, $argument:expr)*) => {{
-        let Drive { image, cells, marks } = $drive;
-        // SAFETY: every pointer and count is that of a borrowed slice or array.
+        let Drive { image, cells, marks, context } = $drive;
+        // SAFETY: every pointer and count is that of a borrowed slice or context.
         // A pointer that is not const is that of a mutable borrow, which
         // overlaps no other borrow; the const ones are only read.
         unsafe {
@@ -161,6 +168,7 @@ macro_rules! call {
                 cells.len(),
                 marks.as_ptr(),
                 marks.len(),
+                context,
                 $($argument),*
             )
         }
@@ -195,45 +203,47 @@ pub(crate) fn states(
     }
 }
 
-pub(crate) fn read(drive: Drive, cache: &Cache, cell: u32) -> Answer {
-    call!(sci_read, drive, cache.kinds.as_ptr(), cache.tags.as_ptr(), cell)
+pub(crate) fn cache_place(context: &Context, place: u32) -> Place {
+    // SAFETY: the pointer is that of a borrow, which is only read.
+    unsafe { sci_cache_place(context, place) }
 }
 
-pub(crate) fn write(drive: Drive, cache: &Cache, cell: u32, value: u64) -> Answer {
-    call!(sci_write, drive, cache.kinds.as_ptr(), cache.tags.as_ptr(), cell, value)
+#[inline]
+pub(crate) fn read(drive: Drive, cell: u32) -> Answer {
+    call!(sci_read, drive, cell)
 }
 
-pub(crate) fn zeroize(drive: Drive, cache: &Cache, cell: u32) -> Answer {
-    call!(sci_zeroize, drive, cache.kinds.as_ptr(), cache.tags.as_ptr(), cell)
+#[inline]
+pub(crate) fn write(drive: Drive, cell: u32, value: u64) -> Answer {
+    call!(sci_write, drive, cell, value)
 }
 
-pub(crate) fn erase(drive: Drive, cache: &Cache, partition: u32) -> Erasure {
-    call!(sci_erase, drive, cache.kinds.as_ptr(), cache.tags.as_ptr(), partition)
+#[inline]
+pub(crate) fn zeroize(drive: Drive, cell: u32) -> Answer {
+    call!(sci_zeroize, drive, cell)
 }
 
-pub(crate) fn erase_cut(
-    drive: Drive,
-    cache: &mut Cache,
-    partition: u32,
-    k: u32,
-    mask: u64,
-) -> Erasure {
-    let (kinds, tags) = (cache.kinds.as_mut_ptr(), cache.tags.as_mut_ptr());
-    call!(sci_erase_cut, drive, kinds, tags, partition, k, mask)
+#[inline]
+pub(crate) fn erase(drive: Drive, partition: u32) -> Erasure {
+    call!(sci_erase, drive, partition)
 }
 
-pub(crate) fn restart(cache: &mut Cache) {
-    // SAFETY: both pointers are those of arrays of 16, borrowed mutably.
-    unsafe { sci_restart(cache.kinds.as_mut_ptr(), cache.tags.as_mut_ptr()) }
+#[inline]
+pub(crate) fn erase_cut(drive: Drive, partition: u32, k: u32, mask: u64) -> Erasure {
+    call!(sci_erase_cut, drive, partition, k, mask)
 }
 
-pub(crate) fn mailbox(drive: Drive, cache: &mut Cache, code: u32, buffers: Buffers) -> Reply {
+pub(crate) fn restart(context: &mut Context) {
+    // SAFETY: the pointer is that of a mutable borrow.
+    unsafe { sci_restart(context) }
+}
+
+#[inline]
+pub(crate) fn mailbox(drive: Drive, code: u32, buffers: Buffers) -> Reply {
     let Buffers { request, response, block } = buffers;
     call!(
         sci_mailbox,
         drive,
-        cache.kinds.as_mut_ptr(),
-        cache.tags.as_mut_ptr(),
         code,
         request.as_ptr(),
         request.len(),

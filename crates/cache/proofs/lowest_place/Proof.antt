@@ -9,10 +9,10 @@ use Rattle.cache.proofs.lowest_place.Statement.{statement}
 use Rattle.cache.proofs.lowest_place.Tie as tie
 
 abbrev Inv-loop : tie.InvT-loop
-Inv-loop kinds tags sought k₀ k = (k ≤ 16) × (lowestPlace (cacheOf kinds tags) sought ≡ firstFrom (isAt (cacheOf kinds tags) sought) k (16 - k))
+Inv-loop context sought k₀ k = (k ≤ 16) × (lowestPlace (cacheOf context) sought ≡ firstFrom (isAt (cacheOf context) sought) k (16 - k))
 
 abbrev μ-loop : tie.MeasureT-loop
-μ-loop kinds tags sought k₀ k = 16 - k
+μ-loop context sought k₀ k = 16 - k
 
 loop-holds : tie.Need-loop-holds Inv-loop μ-loop
 loop-holds c = (omega arith, first-start _ _)

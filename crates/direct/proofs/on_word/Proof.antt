@@ -1,4 +1,4 @@
--- `direct::on_word` meets its contract: a refusal leaves the cells, else the word is burned and shown. Assumes nothing.
+-- `direct::on_word` meets its contract: a refusal leaves the state, else the word is burned and shown. Assumes nothing.
 use mathlib.Core.Path.{sym, _∙_}
 use borrow.Author.Needs.{needs}
 use Rattle.direct.specs.Laws.{word-refused, word-carried}
@@ -12,7 +12,7 @@ same-length : tie.Need-same-length
 same-length c = search needs
 
 returns : tie.Need-returns
-returns c = word-refused _ _ _ _ _ _ _ _ _ (c .before .word-refusal .ensures) (c .if1 .taken)
+returns c = word-refused _ _ _ _ _ _ _ _ (c .before .word-refusal .ensures) (c .if1 .taken)
 
 burn-requires : tie.Need-burn-requires
 burn-requires c κs = search needs
@@ -49,7 +49,9 @@ returns-2 c =
     let entry = c .before .before .before .before .before .before in
     let burned = entry .before .before .before .before in
     let passed = burned .before .before in
-    word-carried _ _ _ _ _ _ _ _ (sym (passed .if1 .left) ∙ passed .before .word-refusal .ensures) (burned .burn .ensures) (entry .before .read-header .ensures) (entry .read-entry .ensures) (c .before .before .before .before .cell-of .ensures) (c .before .before .before .word-of .ensures) (c .before .before .is-secret .ensures) (c .answer-of .ensures)
+    word-carried _ _ _ _ _ _ _ (sym (passed .if1 .left) ∙ passed .before .word-refusal .ensures) (burned .burn .ensures) (entry .before .read-header .ensures)
+    (entry .read-entry .ensures) (c .before .before .before .before .cell-of .ensures) (c .before .before .before .word-of .ensures)
+    (c .before .before .is-secret .ensures) (c .answer-of .ensures)
 
 pub on-word-spec : {M : Type 1} → statement M
 on-word-spec =

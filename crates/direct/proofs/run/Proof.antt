@@ -28,14 +28,16 @@ enum-known-partition c = search needs
 
 on-word-requires : tie.Need-on-word-requires
 on-word-requires c κs =
-    let told = c .before .before .before .before .before .before in
-    named _ _ _ _ (sym (told .enum-told .given .1) ∙ told .before .before .check-drive .ensures) (c .before .before .before .before .before .cell-of .ensures) (sym (c .before .before .partition .given .1) ∙ c .before .before .before .before .word-at .ensures)
+    let found = c .before .before .before in
+    let told = found .before .before .before .before in
+    named _ _ _ _ (sym (told .enum-told .given .1) ∙ told .before .before .check-drive .ensures) (found .before .before .before .cell-of .ensures)
+    (sym (found .partition .given .1) ∙ found .before .before .word-at .ensures)
 
 same-length : tie.Need-same-length
 same-length c = search needs
 
 returns : tie.Need-returns
-returns c = run-drive _ _ _ _ _ _ (sym (c .before .number .given .1) ∙ c .before .before .before .check-drive .ensures)
+returns c = run-drive _ _ _ _ _ (sym (c .before .number .given .1) ∙ c .before .before .before .check-drive .ensures)
 
 same-length-2 : tie.Need-same-length-2
 same-length-2 c = search needs
@@ -43,15 +45,18 @@ same-length-2 c = search needs
 returns-2 : tie.Need-returns-2
 returns-2 c =
     let told = c .before .before .before .before in
-    run-nothing _ _ _ _ _ (sym (told .enum-told .given .1) ∙ told .before .before .check-drive .ensures) (c .before .before .before .cell-of .ensures) (sym (c .enum-told2 .given .1) ∙ c .before .before .word-at .ensures)
+    run-nothing _ _ _ _ (sym (told .enum-told .given .1) ∙ told .before .before .check-drive .ensures) (c .before .before .before .cell-of .ensures)
+    (sym (c .enum-told2 .given .1) ∙ c .before .before .word-at .ensures)
 
 same-length-3 : tie.Need-same-length-3
 same-length-3 c = search needs
 
 returns-3 : tie.Need-returns-3
 returns-3 c =
-    let told = c .before .before .before .before .before .before .before .before .before in
-    c .before .before .on-word .ensures ∙ run-word _ _ _ _ _ (sym (told .enum-told .given .1) ∙ told .before .before .check-drive .ensures) (c .before .before .before .before .before .before .before .before .cell-of .ensures) (sym (c .before .before .before .before .before .partition .given .1) ∙ c .before .before .before .before .before .before .before .word-at .ensures)
+    let found = c .before .before .before .before .before .before in
+    let told = found .before .before .before .before in
+    c .before .before .on-word .ensures ∙ run-word _ _ _ _ (sym (told .enum-told .given .1) ∙ told .before .before .check-drive .ensures)
+    (found .before .before .before .cell-of .ensures) (sym (found .partition .given .1) ∙ found .before .before .word-at .ensures)
 
 pub run-spec : {M : Type 1} → statement M
 run-spec =

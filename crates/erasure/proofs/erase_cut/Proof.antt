@@ -18,13 +18,15 @@ same-length : tie.Need-same-length
 same-length c = search needs
 
 returns : tie.Need-returns
-returns c = cut-left (c .before .before .before .before .before .before .before .attempt .ensures) _ (sym (c .before .before .before .before .is-cut .ensures) ∙ c .before .before .before .if1 .taken) (c .clear .ensures)
+returns c =
+    let cut = c .before .before .before in
+    cut-left (cut .before .before .before .attempt .ensures) (sym (cut .is-cut .ensures) ∙ c .before .before .if1 .taken) (c .clear .ensures)
 
 same-length-2 : tie.Need-same-length-2
 same-length-2 c = search needs
 
 returns-2 : tie.Need-returns-2
-returns-2 c = uncut-left (c .before .before .before .before .attempt .ensures) _ (sym (c .before .is-cut .ensures) ∙ c .if1 .left)
+returns-2 c = uncut-left (c .before .before .before .before .attempt .ensures) (sym (c .before .is-cut .ensures) ∙ c .if1 .left)
 
 pub erase-cut-spec : {M : Type 1} → statement M
 erase-cut-spec =

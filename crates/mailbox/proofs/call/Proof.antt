@@ -1,40 +1,43 @@
--- `mailbox::call` meets its contract: a refusal leaves everything but what FERS has burned, else each part is as the action leaves it. Assumes nothing.
+-- `mailbox::call` meets its contract: a refusal leaves everything but what FERS has burned, else each part is as the effect leaves it. Assumes nothing.
+use Rattle.context.specs.State.{state}
+use Rattle.mailbox.specs.Mailbox.{Lent, lent}
 use Rattle.mailbox.specs.Laws.{Carried, carried, refused-left, carried-left}
-use mathlib.Core.Path.{sym, _∙_}
 use borrow.Author.Needs.{needs}
 use Rattle.mailbox.proofs.call.Statement.{statement}
 use Rattle.mailbox.proofs.call.Tie as tie
 
-action-of-requires : tie.Need-action-of-requires
-action-of-requires c κs = search needs
-
-is-refused-requires : tie.Need-is-refused-requires
-is-refused-requires c κs = search needs
-
-reply-of-requires : tie.Need-reply-of-requires
-reply-of-requires c κs = search needs
+effect-of-requires : tie.Need-effect-of-requires
+effect-of-requires c κs = search needs
 
 same-length : tie.Need-same-length
 same-length c = search needs
 
+-- what the call was lent
+abbrev was : tie.After-effect-of → Lent
+was c =
+    let a = c .before .before .before .before .before .before .before .before .before .args in
+    lent (state (a .cells .now) (a .context .now)) (a .response .now) (a .block .now)
+
 -- past the refusals, what is carried out finds the lengths that it asks for
-carried-at : (c : tie.Else1) → let a = c .before .before .before .before .before .before .before .before .before .before .before .before .before .before .args in Carried (c .before .before .before .before .action-of .result) (a .request .now) (a .response .now) (a .block .now)
-carried-at c = let a = c .before .before .before .before .before .before .before .before .before .before .before .before .before .before .args in carried _ _ _ _ _ _ (a .response .now) (a .block .now) _ _ (c .before .before .before .before .action-of .ensures) (sym (c .before .is-refused .ensures) ∙ c .if1 .left)
+carried-at : (c : tie.Else1) →
+    let done = c .before .before .before .before in
+    let a = done .before .before .before .before .before .before .before .before .before .args in
+    Carried (done .effect-of .result .order) (a .request .now) (a .response .now) (a .block .now)
+carried-at c = let done = c .before .before .before .before in carried _ _ _ _ (was done) (done .effect-of .ensures) (c .if1 .left)
 
 returns : tie.Need-returns
-returns c = refused-left _ _ _ _ _ _ _ _ _ _ (c .before .before .before .before .before .action-of .ensures) (c .reply-of .ensures) (sym (c .before .before .is-refused .ensures) ∙ c .before .if1 .taken)
+returns c =
+    let done = c .before .before .before .before in
+    refused-left _ _ _ _ (was done) (done .effect-of .ensures) (c .if1 .taken)
 
-update-cache-requires : tie.Need-update-cache-requires
-update-cache-requires c κs = search needs
+update-context-requires : tie.Need-update-context-requires
+update-context-requires c κs = search needs
 
 update-block-requires : tie.Need-update-block-requires
-update-block-requires c κs = carried-at (c .before .before .before .before) .fits
+update-block-requires c κs = carried-at (c .before .before .before) .fits
 
-respond-requires : tie.Need-respond-requires
-respond-requires c κs = let l = c .before .before .before .before .before .before .before .before in (carried-at l .room, sym (l .before .is-refused .ensures) ∙ l .if1 .left)
-
-reply-of-requires-2 : tie.Need-reply-of-requires-2
-reply-of-requires-2 c κs = search needs
+write-response-requires : tie.Need-write-response-requires
+write-response-requires c κs = carried-at (c .before .before .before .before .before .before .before .before) .room
 
 same-length-2 : tie.Need-same-length-2
 same-length-2 c = search needs
@@ -46,21 +49,23 @@ same-length-4 : tie.Need-same-length-4
 same-length-4 c = search needs
 
 returns-2 : tie.Need-returns-2
-returns-2 c = carried-left _ _ _ _ _ _ _ _ _ _ (c .before .before .before .before .before .before .before .before .before .before .before .before .before .before .before .before .action-of .ensures) (c .reply-of2 .ensures) (c .before .before .before .before .before .before .before .before .before .update-cache .ensures) (c .before .before .before .before .before .before .before .update-block .ensures) (c .before .before .before .respond .ensures)
+returns-2 c =
+    let past = c .before .before .before .before .before .before .before .before .before .before .before in
+    let done = past .before .before .before .before in
+    carried-left _ _ _ _ (was done) (done .effect-of .ensures) (past .if1 .left)
+    (c .before .before .before .before .before .before .before .before .before .update-context .ensures)
+    (c .before .before .before .before .before .before .before .update-block .ensures) (c .before .before .write-response .ensures)
 
 pub call-spec : {M : Type 1} → statement M
 call-spec =
     tie.close
     (tie.spec
-    action-of-requires
-    is-refused-requires
-    reply-of-requires
+    effect-of-requires
     same-length
     returns
-    update-cache-requires
+    update-context-requires
     update-block-requires
-    respond-requires
-    reply-of-requires-2
+    write-response-requires
     same-length-2
     same-length-3
     same-length-4

@@ -1,8 +1,9 @@
 -- `reader::read_partition` meets its contract: refusal 1, refusal 7, or the fields that were read. Assumes nothing.
-use mathlib.Core.Path.{sym, _∙_}
-use borrow.Author.Tests.{not-true, not-false}
+use mathlib.Core.Path.{sym, ap, _∙_}
+use mathlib.Core.Bool.{not}
+use borrow.Author.Tests.{le-leb, lt-leb}
 use borrow.Author.Needs.{needs}
-use Rattle.reader.specs.Laws.{bad-map, no-partition, fields-are}
+use Rattle.reader.specs.Laws.{reading-at, reading-past}
 use Rattle.reader.proofs.read_partition.Statement.{statement}
 use Rattle.reader.proofs.read_partition.Tie as tie
 
@@ -10,7 +11,7 @@ is-good-requires : tie.Need-is-good-requires
 is-good-requires c κs = search needs
 
 returns : tie.Need-returns
-returns c = sym (bad-map _ _ (sym (c .before .is-good .ensures) ∙ not-true _ (c .if1 .taken)))
+returns c = reading-at _ _ 0 tt (ap not (sym (c .before .is-good .ensures)) ∙ c .if1 .taken)
 
 fields-of-requires : tie.Need-fields-of-requires
 fields-of-requires c κs = search needs
@@ -21,14 +22,14 @@ cast-if2 c = search needs
 returns-2 : tie.Need-returns-2
 returns-2 c =
     let read = c .before .before .before in
-    let good = sym (read .before .before .is-good .ensures) ∙ not-false _ (read .before .if1 .left) in
-    sym (no-partition _ _ good _ (read .fields-of .ensures) (c .if2 .taken))
+    let good = ap not (sym (read .before .before .is-good .ensures)) ∙ read .before .if1 .left in
+    reading-at _ _ 1 (good, tt) (le-leb _ _ (rw (read .fields-of .ensures) at (c .if2 .taken)))
 
 returns-3 : tie.Need-returns-3
 returns-3 c =
     let read = c .before .before .before in
-    let good = sym (read .before .before .is-good .ensures) ∙ not-false _ (read .before .if1 .left) in
-    sym (fields-are _ _ good _ (read .fields-of .ensures) (c .if2 .left))
+    let good = ap not (sym (read .before .before .is-good .ensures)) ∙ read .before .if1 .left in
+    reading-past _ _ (good, (lt-leb _ _ (rw (read .fields-of .ensures) at (c .if2 .left)), tt)) (read .fields-of .ensures)
 
 pub read-partition-spec : {M : Type 1} → statement M
 read-partition-spec =

@@ -1,19 +1,20 @@
--- `report::read_input` meets its contract: one law for each refusal. Assumes nothing.
-use Prim.Native.Nat.{ℕ, _*_, _+_}
-use mathlib.Core.Bool.{true}
+-- `report::read_input` meets its contract: each refusal by the place of its test. Assumes nothing.
+use Prim.Native.Nat.{ℕ, suc}
+use mathlib.Core.Bool.{false, not}
 use mathlib.Core.Path.{_≡_, sym, ap, _∙_}
-use native.Mathlib.Omega.{arith}
-use borrow.Author.Tests.{not-true, not-false}
+use lib.ListN.{drop}
+use borrow.Author.Tests.{lt-ltb, le-ltb, eq-eqb, ne-eqb}
 use borrow.Author.Needs.{needs}
+use Rattle.laws.specs.Refusals.{Past}
 use Rattle.map.specs.Map.{mapGood, headerOf}
 use Rattle.map.specs.declared.Header.{Header}
-use Rattle.report.specs.Status.{cellCount, imageOf}
-use Rattle.report.specs.Laws.{cut-length, long-map, cut-map, image-is, bad-map, whole-drive, not-whole}
+use Rattle.report.specs.Status.{imageOf, cellCount, inputTests}
+use Rattle.report.specs.Laws.{reading-at, reading-past, image-is}
 use Rattle.report.proofs.read_input.Statement.{statement}
 use Rattle.report.proofs.read_input.Tie as tie
 
 returns : tie.Need-returns
-returns c = sym (cut-length _ (c .if1 .taken))
+returns c = reading-at _ 0 tt (lt-ltb _ _ (c .if1 .taken))
 
 u16-at-requires : tie.Need-u16-at-requires
 u16-at-requires c κs = search needs
@@ -22,13 +23,15 @@ cast-len : tie.Need-cast-len
 cast-len c = search needs
 
 returns-2 : tie.Need-returns-2
-returns-2 c = sym (long-map _ _ (c .before .u16-at .ensures) (c .before .before .if1 .left) (c .if2 .taken))
+returns-2 c = reading-at _ 1 (le-ltb _ _ (c .before .before .if1 .left), tt) (lt-ltb _ _ (rw (c .before .u16-at .ensures) at (c .if2 .taken)))
 
 add-end : tie.Need-add-end
 add-end c = search needs
 
 returns-3 : tie.Need-returns-3
-returns-3 c = sym (cut-map _ _ (c .before .before .u16-at .ensures) (c .before .before .before .if1 .left) (c .before .if2 .left) (c .if3 .taken))
+returns-3 c =
+    let len = c .before .before in
+    reading-at _ 2 (le-ltb _ _ (len .before .if1 .left), (le-ltb _ _ (rw (len .u16-at .ensures) at (c .before .if2 .left)), tt)) (lt-ltb _ _ (rw (len .u16-at .ensures) at (c .if3 .taken)))
 
 sub-image : tie.Need-sub-image
 sub-image c = search needs
@@ -42,12 +45,17 @@ part-image-end c = search needs
 is-good-requires : tie.Need-is-good-requires
 is-good-requires c κs = search needs
 
+-- the tests of the lengths do not apply, nor k tests behind them
+lengths-past : (c : tie.Else3) (k : ℕ) → let input = c .before .before .before .before .before .args .input .now in Past k (drop 3 (inputTests input)) → Past (suc (suc (suc k))) (inputTests input)
+lengths-past c k p =
+    let len = c .before .before in
+    (le-ltb _ _ (len .before .if1 .left), (le-ltb _ _ (rw (len .u16-at .ensures) at (c .before .if2 .left)), (le-ltb _ _ (rw (len .u16-at .ensures) at (c .if3 .left)), p)))
+
 returns-4 : tie.Need-returns-4
 returns-4 c =
     let three = c .before .before .before in
-    let len = three .before .before in
-    let two = len .before .if1 .left in
-    sym (bad-map _ _ (len .u16-at .ensures) two (three .before .if2 .left) (three .if3 .left) (ap mapGood (sym (image-is _ _ (len .u16-at .ensures) two)) ∙ sym (c .before .is-good .ensures) ∙ not-true _ (c .if4 .taken)))
+    let image = image-is _ (three .before .before .u16-at .ensures) in
+    reading-at _ 3 (lengths-past three 0 tt) (ap not (ap mapGood (sym image) ∙ sym (c .before .is-good .ensures)) ∙ c .if4 .taken)
 
 read-header-requires : tie.Need-read-header-requires
 read-header-requires c κs = search needs
@@ -62,27 +70,24 @@ add-if5 : tie.Need-add-if5
 add-if5 c = search needs
 
 -- the header's cells are C, and the map is good
-judged : (c : tie.After-struct-known) → let header = c .before in let isgood = header .before .before in let len = isgood .before .before .before .before in let input = len .before .before .before .args .input .now in (header .read-header .result .cells ≡ cellCount input) × (mapGood (imageOf input) ≡ true)
+judged : (c : tie.After-struct-known) → let header = c .before in let input = header .before .before .before .before .before .before .before .before .before .args .input .now in (header .read-header .result .cells ≡ cellCount input) × (not (mapGood (imageOf input)) ≡ false)
 judged c =
     let header = c .before in
     let isgood = header .before .before in
-    let len = isgood .before .before .before .before in
-    let image = image-is _ _ (len .u16-at .ensures) (len .before .if1 .left) in
-    (ap (λ (h : Header). h .cells) (header .read-header .ensures ∙ ap headerOf image), ap mapGood (sym image) ∙ sym (isgood .is-good .ensures) ∙ not-false _ (header .before .if4 .left))
+    let image = image-is _ (isgood .before .before .before .before .u16-at .ensures) in
+    (ap (λ (h : Header). h .cells) (header .read-header .ensures ∙ ap headerOf image), ap not (ap mapGood (sym image) ∙ sym (isgood .is-good .ensures)) ∙ header .before .if4 .left)
 
 returns-5 : tie.Need-returns-5
 returns-5 c =
     let three = c .before .before .before .before .before .before in
-    let len = three .before .before in
     let j = judged (c .before) in
-    sym (whole-drive _ _ (len .u16-at .ensures) (len .before .if1 .left) (three .before .if2 .left) (three .if3 .left) (j .1) (omega arith))
+    reading-past _ (lengths-past three 2 (j .1, (ap not (eq-eqb _ _ (rw (three .before .before .u16-at .ensures, j .0) at (c .if5 .taken))), tt)))
 
 returns-6 : tie.Need-returns-6
 returns-6 c =
     let three = c .before .before .before .before .before .before in
-    let len = three .before .before in
     let j = judged (c .before) in
-    sym (not-whole _ _ (len .u16-at .ensures) (len .before .if1 .left) (three .before .if2 .left) (three .if3 .left) (j .1) (λ q. c .if5 .left (q ∙ ap (λ (k : ℕ). 2 + len .u16-at .result + 8 * k) (sym (j .0)))))
+    reading-at _ 4 (lengths-past three 1 (j .1, tt)) (ap not (ne-eqb _ _ (rw (three .before .before .u16-at .ensures, j .0) at (c .if5 .left))))
 
 pub read-input-spec : {M : Type 1} → statement M
 read-input-spec =

@@ -1,5 +1,7 @@
 -- `sciambrunola::run_flat` meets its contract: as `direct::run` does, its answer as numbers. Assumes nothing.
-use Rattle.sciambrunola.specs.Laws.{told}
+use mathlib.Core.Path.{ap}
+use Rattle.context.specs.State.{telling}
+use Rattle.sciambrunola.specs.Numbers.{answerNumbers}
 use borrow.Author.Needs.{needs}
 use Rattle.sciambrunola.proofs.run_flat.Statement.{statement}
 use Rattle.sciambrunola.proofs.run_flat.Tie as tie
@@ -14,7 +16,7 @@ same-length : tie.Need-same-length
 same-length c = search needs
 
 returns : tie.Need-returns
-returns c = told (c .before .before .before .run .ensures) (c .flat-answer .ensures)
+returns c = rw (c .flat-answer .ensures) (ap (telling answerNumbers) (c .before .before .before .run .ensures))
 
 pub run-flat-spec : {M : Type 1} → statement M
 run-flat-spec = tie.close (tie.spec run-requires flat-answer-requires same-length returns)

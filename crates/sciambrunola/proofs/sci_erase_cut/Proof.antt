@@ -1,5 +1,7 @@
 -- `sciambrunola::sci_erase_cut` meets its contract: as `erasure::erase_cut` does, its answer as numbers. Assumes nothing.
-use Rattle.sciambrunola.specs.Laws.{cut-told}
+use mathlib.Core.Path.{ap}
+use Rattle.context.specs.State.{telling}
+use Rattle.sciambrunola.specs.Numbers.{erasureNumbers}
 use borrow.Author.Needs.{needs}
 use Rattle.sciambrunola.proofs.sci_erase_cut.Statement.{statement}
 use Rattle.sciambrunola.proofs.sci_erase_cut.Tie as tie
@@ -14,7 +16,7 @@ same-length : tie.Need-same-length
 same-length c = search needs
 
 returns : tie.Need-returns
-returns c = cut-told (c .before .before .before .erase-cut .ensures) (c .flat-erasure .ensures)
+returns c = rw (c .flat-erasure .ensures) (ap (telling erasureNumbers) (c .before .before .before .erase-cut .ensures))
 
 pub sci-erase-cut-spec : {M : Type 1} → statement M
 sci-erase-cut-spec =

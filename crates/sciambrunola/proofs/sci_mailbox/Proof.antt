@@ -1,6 +1,8 @@
--- `sciambrunola::sci_mailbox` meets its contract: what the entry point leaves. Assumes nothing.
+-- `sciambrunola::sci_mailbox` meets its contract: as `mailbox::call` does, its answer as numbers. Assumes nothing.
+use mathlib.Core.Path.{ap}
+use Rattle.context.specs.State.{telling}
+use Rattle.sciambrunola.specs.Numbers.{replyNumbers}
 use borrow.Author.Needs.{needs}
-use Rattle.sciambrunola.specs.Laws.{called}
 use Rattle.sciambrunola.proofs.sci_mailbox.Statement.{statement}
 use Rattle.sciambrunola.proofs.sci_mailbox.Tie as tie
 
@@ -20,7 +22,7 @@ same-length-3 : tie.Need-same-length-3
 same-length-3 c = search needs
 
 returns : tie.Need-returns
-returns c = called (c .before .before .before .before .before .before .before .call .ensures) (c .flat-reply .ensures)
+returns c = rw (c .flat-reply .ensures) (ap (telling replyNumbers) (c .before .before .before .before .before .before .before .call .ensures))
 
 pub sci-mailbox-spec : {M : Type 1} → statement M
 sci-mailbox-spec =

@@ -1,5 +1,7 @@
 -- `sciambrunola::sci_states` meets its contract: as `states::list_states` does, its answer as numbers. Assumes nothing.
-use Rattle.sciambrunola.specs.Laws.{listing-told}
+use mathlib.Core.Path.{ap}
+use Rattle.context.specs.State.{telling}
+use Rattle.sciambrunola.specs.Numbers.{listingNumbers}
 use borrow.Author.Needs.{needs}
 use Rattle.sciambrunola.proofs.sci_states.Statement.{statement}
 use Rattle.sciambrunola.proofs.sci_states.Tie as tie
@@ -11,7 +13,7 @@ flat-listing-requires : tie.Need-flat-listing-requires
 flat-listing-requires c κs = search needs
 
 returns : tie.Need-returns
-returns c = listing-told (c .before .list-states .ensures) (c .flat-listing .ensures)
+returns c = rw (c .flat-listing .ensures) (ap (telling listingNumbers) (c .before .list-states .ensures))
 
 pub sci-states-spec : {M : Type 1} → statement M
 sci-states-spec = tie.close (tie.spec list-states-requires flat-listing-requires returns)

@@ -21,13 +21,12 @@ put-states-requires c κs =
     (judged _ _ _ _ (sym (told .enum-told .given .1) ∙ told .before .before .check-drive .ensures) .whole, search needs, search needs)
 
 returns : tie.Need-returns
-returns c = let told = c .before in lists-none _ _ _ _ _ _ (sym (told .number .given .1) ∙ told .before .before .check-drive .ensures)
+returns c = let told = c .before in lists-none _ _ _ _ (sym (told .number .given .1) ∙ told .before .before .check-drive .ensures)
 
 returns-2 : tie.Need-returns-2
 returns-2 c =
     let told = c .before .before .before in
-    let listed = c .put-states .ensures in
-    lists-all _ _ _ _ _ _ (sym (told .enum-told .given .1) ∙ told .before .before .check-drive .ensures) _ _ _ (listed .0) (listed .1) (listed .2)
+    lists-all _ _ _ _ (sym (told .enum-told .given .1) ∙ told .before .before .check-drive .ensures) (c .put-states .ensures)
 
 pub list-states-spec : {M : Type 1} → statement M
 list-states-spec =

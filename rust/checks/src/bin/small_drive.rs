@@ -6,7 +6,7 @@ use checks::calls::requests::fers;
 use checks::small::Small;
 use model::mailbox::fields::Command;
 use model::mailbox::request::{Request, Values};
-use sciambrunola::{Cache, Erasure, Order, Reply, NO_CELL};
+use sciambrunola::{Context, Erasure, Order, Reply, NO_CELL};
 
 fn main() {
     let cases = [case_1, case_2, case_3, case_4, case_5, case_6, case_7, case_8, case_9];
@@ -17,7 +17,7 @@ fn main() {
 }
 
 fn new() -> Small {
-    Small::new(Cache::default())
+    Small::new(Context::new())
 }
 
 fn request(command: Command, timeout: u32) -> Request {
@@ -118,7 +118,7 @@ fn case_10() {
         key(&mut small, Command::Klod, tag);
     }
     key(&mut small, Command::Klod, 107);
-    let tag = small.cache.place(3).expect("place 3 is held");
+    let tag = small.context.place(3).expect("place 3 is held");
     key(&mut small, Command::Kunl, tag);
     key(&mut small, Command::Klod, 117);
 }

@@ -20,7 +20,7 @@ pub struct Difference {
 
 /// Plays a sequence on a key block and counts what happened in it, or gives
 /// the first difference from the model: in the answer, the cells, the places
-/// of the cache, the block or the response buffer.
+/// of the cache, the block, the response buffer or anything else that is lent.
 pub fn sequence(
     number: usize,
     block: &impl KeyBlock,
@@ -56,12 +56,14 @@ pub fn difference(model: (Said, &Lent), block: (Said, &Lent)) -> Option<String> 
     let places = || first_difference("place", &expected.cache.places, &after.cache.places);
     let blocks = || first_difference("block byte", &expected.block, &after.block);
     let responses = || first_difference("response byte", &expected.response, &after.response);
+    let others = || format!("the model leaves {expected:X?}, the key block leaves {after:X?}");
     (said != answered)
         .then(answers)
         .or_else(cells)
         .or_else(places)
         .or_else(blocks)
         .or_else(responses)
+        .or_else(|| (expected != after).then(others))
 }
 
 /// Both were lent the same, so the lengths are the same.

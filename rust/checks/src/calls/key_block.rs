@@ -1,6 +1,6 @@
 //! What is compared with the model, and the proved archive as one of them.
 
-use model::cache::{Cache, PLACES};
+use crate::context;
 use model::direct::{Answer, Command};
 use model::erasure::{Cut, Erase, Erasure};
 use model::lent::Lent;
@@ -26,9 +26,10 @@ impl KeyBlock for Proved {
             Command::Write { cell, value } => proved::Command::Write { cell, value },
             Command::Zeroize { cell } => proved::Command::Zeroize { cell },
         };
-        let cache = proved::Cache::from_places(lent.cache.places);
-        let drive = &mut lent.drive;
-        match proved::direct(&drive.image, &mut drive.cells, &drive.marks, &cache, command) {
+        let answer = context::with(lent, |Lent { drive, .. }, context| {
+            proved::direct(&drive.image, &mut drive.cells, &drive.marks, context, command)
+        });
+        match answer {
             proved::Answer::Word(word) => Answer::Word(word),
             proved::Answer::Done => Answer::Done,
             proved::Answer::Withheld => Answer::Withheld,
@@ -37,12 +38,13 @@ impl KeyBlock for Proved {
     }
 
     fn erase(&self, lent: &mut Lent, erase: Erase) -> Erasure {
-        let Lent { drive, cache, .. } = lent;
-        let (image, cells, marks) = (&drive.image, &mut drive.cells, &drive.marks);
-        let erasure = with_cache(cache, |cache| match erase.cut {
-            None => proved::erase(image, cells, marks, cache, erase.partition),
-            Some(Cut { k, mask }) => {
-                proved::erase_cut(image, cells, marks, cache, erase.partition, k, mask)
+        let erasure = context::with(lent, |Lent { drive, .. }, context| {
+            let (image, cells, marks) = (&drive.image, &mut drive.cells, &drive.marks);
+            match erase.cut {
+                None => proved::erase(image, cells, marks, context, erase.partition),
+                Some(Cut { k, mask }) => {
+                    proved::erase_cut(image, cells, marks, context, erase.partition, k, mask)
+                }
             }
         });
         match erasure {
@@ -55,11 +57,10 @@ impl KeyBlock for Proved {
     }
 
     fn mailbox(&self, lent: &mut Lent, request: &Request) -> Reply {
-        let Lent { drive, cache, block, response } = lent;
-        let (image, cells, marks) = (&drive.image, &mut drive.cells, &drive.marks);
         let Request { code, bytes } = request;
-        let reply = with_cache(cache, |cache| {
-            proved::mailbox(image, cells, marks, cache, *code, bytes, response, block)
+        let reply = context::with(lent, |Lent { drive, block, response, .. }, context| {
+            let (image, cells, marks) = (&drive.image, &mut drive.cells, &drive.marks);
+            proved::mailbox(image, cells, marks, context, *code, bytes, response, block)
         });
         match reply {
             proved::Reply::Refused(number) => Reply::Refused(number),
@@ -70,19 +71,8 @@ impl KeyBlock for Proved {
     }
 
     fn restart(&self, lent: &mut Lent) {
-        with_cache(&mut lent.cache, proved::restart);
+        context::with(lent, |_, context| proved::restart(context));
     }
-}
-
-/// Makes a call with the cache as the archive has it, and takes it back.
-fn with_cache<T>(cache: &mut Cache, call: impl FnOnce(&mut proved::Cache) -> T) -> T {
-    let mut lent = proved::Cache::from_places(cache.places);
-    let said = call(&mut lent);
-    cache.places = places_of(&lent);
-    // Besides the places this compares what kinds and tags stand for them.
-    let right = proved::Cache::from_places(cache.places);
-    assert_eq!(lent, right, "an empty place has kind 0 and tag 0, a held one 1");
-    said
 }
 
 fn order_of(order: proved::Order) -> Order {
@@ -92,10 +82,4 @@ fn order_of(order: proved::Order) -> Order {
         proved::Order::Load { place, timeout } => Order::Load { place, timeout },
         proved::Order::Unload { place, timeout } => Order::Unload { place, timeout },
     }
-}
-
-fn places_of(cache: &proved::Cache) -> [Option<u64>; PLACES] {
-    let mut places = [None; PLACES];
-    places.iter_mut().enumerate().for_each(|(i, place)| *place = cache.place(i));
-    places
 }

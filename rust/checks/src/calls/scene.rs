@@ -68,8 +68,8 @@ pub struct Scene {
     random: Random,
     mood: &'static Mood,
     tags: Vec<u64>,
-    drive: Drive,
-    cache: Cache,
+    /// What the last call left; the next one gets other buffers.
+    lent: Lent,
     /// How many calls the sequence has.
     pub calls: usize,
 }
@@ -82,7 +82,7 @@ impl Scene {
         let cache = cache(&mut random, &tags);
         let drive = drive(&mut random);
         let calls = random.between(60, 120);
-        Scene { random, mood, tags, drive, cache, calls }
+        Scene { random, mood, tags, lent: Lent { drive, cache, ..Lent::default() }, calls }
     }
 
     /// The next call with what it is lent. Some calls find something damaged,
@@ -100,12 +100,14 @@ impl Scene {
     }
 
     /// Goes on from what a call left, unless the call was lent something
-    /// damaged, which may have had a good map of its own.
-    pub fn go_on(&mut self, after: Lent) {
-        let same_lengths = after.drive.cells.len() == self.drive.cells.len();
-        if same_lengths && after.drive.image == self.drive.image {
-            self.drive.cells = after.drive.cells;
-            self.cache = after.cache;
+    /// damaged, which may have had a good map of its own. Damaged marks are the
+    /// call's alone.
+    pub fn go_on(&mut self, mut after: Lent) {
+        let drive = &mut self.lent.drive;
+        let same_lengths = after.drive.cells.len() == drive.cells.len();
+        if same_lengths && after.drive.image == drive.image {
+            after.drive.marks = std::mem::take(&mut drive.marks);
+            self.lent = after;
         }
     }
 
@@ -113,7 +115,7 @@ impl Scene {
         let Mood { read, write, zeroize, erase, cut, restart, .. } = *self.mood;
         let Mood { clear, load, unload, erase_by_mailbox, status, .. } = *self.mood;
         let by_mailbox = [clear, load, unload, erase_by_mailbox, status];
-        let (random, drive) = (&mut self.random, &self.drive);
+        let (random, drive) = (&mut self.random, &self.lent.drive);
         let others = by_mailbox.iter().sum();
         match random.weighted(&[read, write, zeroize, erase, cut, restart, others]) {
             0 => Call::Direct(commands::read(random, drive)),
@@ -137,7 +139,7 @@ impl Scene {
             Call::Mailbox(_) => buffers::of_right_lengths(&mut self.random),
             _ => (vec![], vec![]),
         };
-        Lent { drive: self.drive.clone(), cache: self.cache.clone(), block, response }
+        Lent { block, response, ..self.lent.clone() }
     }
 }
 

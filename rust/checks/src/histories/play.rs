@@ -6,8 +6,6 @@ use super::{Attempt, History};
 use crate::calls::{difference, Call, KeyBlock, Proved, Said};
 use crate::cores;
 use crate::layout::Layout;
-use model::cache::Cache;
-use model::drive::Drive;
 use model::erasure::{Cut, Erase};
 use model::lent::Lent;
 use std::collections::BTreeSet;
@@ -87,12 +85,12 @@ pub fn broken_clauses(history: &History, block: &impl KeyBlock) -> BTreeSet<&'st
 /// Plays the attempts one after the other.
 fn play<'a>(history: &'a History, block: &impl KeyBlock) -> Vec<Step<'a>> {
     let whole = Layout::of(&history.start, history.partition);
-    let (mut drive, mut cache) = (history.start.clone(), Cache::default());
+    let mut left = start(history);
     let mut completed = false;
     let mut steps = Vec::new();
     for attempt in &history.attempts {
         let (call, partition) = (&attempt.call, whole.clone());
-        let before = lent(drive, cache, attempt);
+        let before = lent(left, attempt);
         let mut after = before.clone();
         let said = call.by(block, &mut after);
         let cut = cut(call, said, partition.as_ref());
@@ -100,7 +98,7 @@ fn play<'a>(history: &'a History, block: &impl KeyBlock) -> Vec<Step<'a>> {
         let alone = uncut.then(|| alone(history, attempt, block));
         let completes = uncut && said.refusal().is_none();
         completed |= completes;
-        (drive, cache) = (after.drive.clone(), after.cache.clone());
+        left = after.clone();
         steps.push(Step {
             history,
             partition,
@@ -117,14 +115,20 @@ fn play<'a>(history: &'a History, block: &impl KeyBlock) -> Vec<Step<'a>> {
     steps
 }
 
-fn lent(drive: Drive, cache: Cache, attempt: &Attempt) -> Lent {
-    Lent { drive, cache, block: attempt.block.clone(), response: attempt.response.clone() }
+/// The drive at the start, and nothing kept yet.
+fn start(history: &History) -> Lent {
+    Lent { drive: history.start.clone(), ..Lent::default() }
+}
+
+/// What an attempt is lent: what the one before left, and buffers of its own.
+fn lent(left: Lent, attempt: &Attempt) -> Lent {
+    Lent { block: attempt.block.clone(), response: attempt.response.clone(), ..left }
 }
 
 /// The attempt made alone. Of the buffers only the lengths are the same, so
 /// every byte of them is another one.
 fn alone(history: &History, attempt: &Attempt, block: &impl KeyBlock) -> (Said, Lent) {
-    let mut lent = lent(history.start.clone(), Cache::default(), attempt);
+    let mut lent = lent(start(history), attempt);
     let bytes = lent.block.iter_mut().chain(&mut lent.response);
     bytes.for_each(|byte| *byte = !*byte);
     let said = attempt.call.by(block, &mut lent);

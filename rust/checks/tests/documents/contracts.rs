@@ -63,7 +63,8 @@ fn rows(architecture: &str) -> Vec<String> {
     found
 }
 
-/// The public functions of all crates.
+/// The public functions of all crates: those of their `lib.rt`. Another module of a crate is
+/// private to it (`sciambrunola` `numbers`).
 fn all_functions() -> BTreeSet<String> {
     let crates = fs::read_dir(in_repository("crates")).expect("the folder can be read");
     let names = crates.map(|entry| entry.expect("its entries too").file_name());

@@ -1,6 +1,5 @@
 //! A drive with a partition of each sort.
 
-use model::cache::Cache;
 use model::drive::Drive;
 use model::image::{entry, Image, SLOT_FLAGS};
 use model::lent::Lent;
@@ -19,7 +18,7 @@ pub fn lent() -> Lent {
     ];
     let image = Image { cells: 28, bound: 60, entries_at: 8, entries }.bytes();
     let drive = Drive { image, cells: vec![0; 28], marks: vec![0; 28] };
-    Lent { drive, cache: Cache::default(), block: vec![], response: vec![] }
+    Lent { drive, ..Lent::default() }
 }
 
 /// The same with something changed.

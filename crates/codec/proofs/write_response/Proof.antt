@@ -1,0 +1,67 @@
+-- `codec::write_response` meets its contract: the fields after chksum, then chksum. Assumes nothing.
+use Prim.Native.Nat.{ℕ}
+use mathlib.Core.Path.{ap}
+use native.Mathlib.Omega.{arith}
+use lib.ListN.{take}
+use Rattle.laws.specs.Put.{then, retext}
+use Rattle.codec.specs.Fields.{written, numbersIn}
+use Rattle.codec.specs.Laws.{written-most, enough, fits-least, responded}
+use borrow.Author.Needs.{needs}
+use Rattle.codec.proofs.write_response.Statement.{statement}
+use Rattle.codec.proofs.write_response.Tie as tie
+
+begin-response-requires : tie.Need-begin-response-requires
+begin-response-requires c κs = search needs
+
+number-count-requires : tie.Need-number-count-requires
+number-count-requires c κs = search needs
+
+put-numbers-requires : tie.Need-put-numbers-requires
+put-numbers-requires c κs =
+    let start = c .before .before .before .before .before .before .before in
+    let begun = c .before .before .before .before .begin-response .ensures in
+    let fits = fits-least (start .args .command) (start .args .numbers) in
+    (omega (arith, enough (start .args .command) (start .args .numbers), c .number-count .ensures), omega (arith, fits, c .number-count .ensures, begun .is-next, begun .same, start .pre))
+
+close-requires : tie.Need-close-requires
+close-requires c κs = search needs
+
+cast-result : tie.Need-cast-result
+cast-result c =
+    let put = c .before .before .before .before .before .before in
+    let count = put .before in
+    let begun = count .before .before .before .before in
+    let a = begun .before .before .before .args in
+    omega (
+      arith,
+      put .put-numbers .ensures .is-next,
+      written-most (numbersIn (a .numbers)) (count .number-count .result),
+      begun .begin-response .ensures .is-next,
+      fits-least (a .command) (a .numbers),
+      count .number-count .ensures,
+    )
+
+same-length : tie.Need-same-length
+same-length c = search needs
+
+returns : tie.Need-returns
+returns c =
+    let put = c .before .before .before .before .before .before in
+    let count = put .before in
+    let begun = count .before .before .before .before in
+    let a = begun .before .before .before .args in
+    responded (a .command) (a .numbers)
+    (then (begun .begin-response .ensures) (retext (ap (λ (n : ℕ). written (take n (numbersIn (a .numbers)))) (count .number-count .ensures)) (put .put-numbers .ensures)))
+    (c .before .before .close .ensures)
+
+pub write-response-spec : {M : Type 1} → statement M
+write-response-spec =
+    tie.close
+    (tie.spec
+    begin-response-requires
+    number-count-requires
+    put-numbers-requires
+    close-requires
+    cast-result
+    same-length
+    returns)

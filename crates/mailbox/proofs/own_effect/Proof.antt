@@ -1,0 +1,103 @@
+-- `mailbox::own_effect` meets its contract: by the command. Assumes nothing.
+use Rattle.context.specs.State.{state}
+use Rattle.mailbox.specs.Laws.{load-does, unload-does}
+use borrow.Author.Needs.{needs}
+use Rattle.mailbox.proofs.own_effect.Statement.{statement}
+use Rattle.mailbox.proofs.own_effect.Tie as tie
+
+enum-told : tie.Need-enum-told
+enum-told c = search needs
+
+clear-effect-requires : tie.Need-clear-effect-requires
+clear-effect-requires c κs = search needs
+
+enum-told-2 : tie.Need-enum-told-2
+enum-told-2 c = search needs
+
+load-effect-requires : tie.Need-load-effect-requires
+load-effect-requires c κs = search needs
+
+enum-told-3 : tie.Need-enum-told-3
+enum-told-3 c = search needs
+
+unload-effect-requires : tie.Need-unload-effect-requires
+unload-effect-requires c κs = search needs
+
+enum-told-4 : tie.Need-enum-told-4
+enum-told-4 c = search needs
+
+run-fers-requires : tie.Need-run-fers-requires
+run-fers-requires c κs = search needs
+
+enum-told-5 : tie.Need-enum-told-5
+enum-told-5 c = search needs
+
+active-in-requires : tie.Need-active-in-requires
+active-in-requires c κs = search needs
+
+status-effect-requires : tie.Need-status-effect-requires
+status-effect-requires c κs = search needs
+
+enum-told-6 : tie.Need-enum-told-6
+enum-told-6 c = search needs
+
+refuse-requires : tie.Need-refuse-requires
+refuse-requires c κs = search needs
+
+returns : tie.Need-returns
+returns c = rw (c .before .enum-told .given .1, c .clear-effect .ensures)
+
+same-length : tie.Need-same-length
+same-length c = search needs
+
+returns-2 : tie.Need-returns-2
+returns-2 c =
+    let a = c .before .before .before .before .before .before .before .before .args in
+    rw (c .before .before .enum-told2 .given .1) (load-does _ (a .marks .now) _ (state (a .cells .now) (a .context .now)) (c .load-effect .ensures))
+
+returns-3 : tie.Need-returns-3
+returns-3 c =
+    let a = c .before .before .before .before .before .before .before .args in
+    rw (c .before .enum-told3 .given .1) (unload-does (a .image .now) (a .marks .now) _ (state (a .cells .now) (a .context .now)) (c .unload-effect .ensures))
+
+same-length-2 : tie.Need-same-length-2
+same-length-2 c = search needs
+
+returns-4 : tie.Need-returns-4
+returns-4 c = rw (c .before .before .before .before .enum-told4 .given .1) (c .before .before .run-fers .ensures)
+
+same-length-3 : tie.Need-same-length-3
+same-length-3 c = search needs
+
+returns-5 : tie.Need-returns-5
+returns-5 c = rw (c .before .before .before .enum-told5 .given .1, c .status-effect .ensures, c .before .active-in .ensures)
+
+returns-6 : tie.Need-returns-6
+returns-6 c = rw (c .before .enum-told6 .given .1, c .refuse .ensures)
+
+pub own-effect-spec : {M : Type 1} → statement M
+own-effect-spec =
+    tie.close
+    (tie.spec
+    enum-told
+    clear-effect-requires
+    enum-told-2
+    load-effect-requires
+    enum-told-3
+    unload-effect-requires
+    enum-told-4
+    run-fers-requires
+    enum-told-5
+    active-in-requires
+    status-effect-requires
+    enum-told-6
+    refuse-requires
+    returns
+    same-length
+    returns-2
+    returns-3
+    same-length-2
+    returns-4
+    same-length-3
+    returns-5
+    returns-6)

@@ -1,0 +1,30 @@
+-- `mailbox::status_effect` meets its contract: at the slot. Assumes nothing.
+use mathlib.Core.Path.{_∙_}
+use borrow.Author.Needs.{needs}
+use Rattle.mailbox.proofs.status_effect.Statement.{statement}
+use Rattle.mailbox.proofs.status_effect.Tie as tie
+
+slot-number-requires : tie.Need-slot-number-requires
+slot-number-requires c κs = search needs
+
+hek-number-requires : tie.Need-hek-number-requires
+hek-number-requires c κs = search needs
+
+two-numbers-requires : tie.Need-two-numbers-requires
+two-numbers-requires c κs = search needs
+
+effect-with-requires : tie.Need-effect-with-requires
+effect-with-requires c κs = search needs
+
+returns : tie.Need-returns
+returns c = c .effect-with .ensures ∙ rw (c .before .two-numbers .ensures, c .before .before .before .slot-number .ensures, c .before .before .hek-number .ensures)
+
+pub status-effect-spec : {M : Type 1} → statement M
+status-effect-spec =
+    tie.close
+    (tie.spec
+    slot-number-requires
+    hek-number-requires
+    two-numbers-requires
+    effect-with-requires
+    returns)
