@@ -3,7 +3,7 @@
 use Prim.Native.Nat.{ℕ, zero, suc, _+_, _*_, _≤_, _<_}
 use mathlib.Core.Path.{_≡_, refl, sym, ap, _∙_}
 use mathlib.Core.Logic.{⊎-elim}
-use mathlib.Core.Bool.{Bool, true, false, cond, _&&_, false≢true}
+use mathlib.Core.Bool.{Bool, true, false, cond, _&&_, _||_, false≢true}
 use mathlib.Core.List.{List, [], _∷_, _++_, append-assoc, map}
 use native.Mathlib.Omega.{arith}
 use native.Mathlib.Numerals.{add-one}
@@ -12,7 +12,7 @@ use lib.Dec.{eqb}
 use lib.ListN.{length, getD, take, drop, length-take}
 use lib.Seq.{take-at, take-suc, drop-append-add}
 use borrow.Author.Tests.{eqb-true}
-use Rattle.laws.specs.Tests.{decided, not-yes, and, holds-yes}
+use Rattle.laws.specs.Tests.{decided, not-yes, and, holds-yes, neither}
 use Rattle.laws.specs.Refusals.{numberOf, testAt, refusalAt, Past, refused-at, past-all}
 use Rattle.laws.specs.Put.{Put}
 use Rattle.endian.specs.Endian.{u32-at, bytes4}
@@ -40,7 +40,7 @@ module _ (command : Command) (code : ℕ) (request : List ℕ) where
 -- a field of the list
 abbrev pub among : Field → List Field → Bool
 among field [] = false
-among field (f ∷ fields) = cond (same field f) true (among field fields)
+among field (f ∷ fields) = same field f || among field fields
 
 -- and its place in it
 abbrev pub indexOf : Field → List Field → ℕ
@@ -141,22 +141,18 @@ enough Fers numbers = omega arith
 enough Fsta numbers = omega arith
 enough Unknown numbers = omega arith
 
-not-first : (a b : Bool) → cond a true b ≡ false → (a ≡ false) × (b ≡ false)
-not-first true b e = absurd (false≢true (sym e))
-not-first false b e = (refl, e)
-
 -- so that each field is a u32: the list's length, and the bytes of as many numbers
 u32-length : (fields : List Field) → among Mek fields ≡ false → lengthOf fields ≡ 4 * length fields
 u32-length [] n = refl
 u32-length (f ∷ fields) n =
-    let both = not-first (same Mek f) (among Mek fields) n in
+    let both = neither (same Mek f) (among Mek fields) n in
     rw (both .0) (omega (arith, u32-length fields (both .1)))
 
 u32-sized : (fields : List Field) (numbers : List ℕ) → among Mek fields ≡ false → length fields ≤ length numbers → sized fields (map bytes4 numbers) ≡ true
 u32-sized [] numbers n l = refl
 u32-sized (f ∷ fields) [] n l = absurd (omega arith)
 u32-sized (f ∷ fields) (v ∷ numbers) n l =
-    let both = not-first (same Mek f) (among Mek fields) n in
+    let both = neither (same Mek f) (among Mek fields) n in
     rw (both .0) (u32-sized fields numbers (both .1) (omega arith))
 
 -- the bytes of number k

@@ -1,5 +1,5 @@
--- What calls change, and what a call answers and leaves: the definition of every entry point answers in these two records. Assumes
--- nothing.
+-- What calls change, and what a call answers and leaves: the definition of an entry point that is lent something to change answers in
+-- these two records. Assumes nothing.
 use Prim.Native.Nat.{ℕ}
 use mathlib.Core.List.{List}
 

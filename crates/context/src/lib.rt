@@ -2,7 +2,7 @@
 // the context of a drive that has just started. Here is where each part lies; a part's own crate
 // reads and writes it (`cache`: the places' kinds and tags). The definitions are in `specs/Context`,
 // the one law of stores in `specs/Laws`; `specs/State` has what calls change and what a call answers
-// and leaves. It rests on `laws`.
+// and leaves. It rests on nothing.
 
 // The words of the context, and where each part begins. A new part goes behind the last, and the
 // length of the whole grows by its own.

@@ -2,15 +2,15 @@
 use Prim.Native.Nat.{ℕ, _+_, _-_, _≤_, _<_}
 use mathlib.Core.Path.{_≡_, refl, sym, ap, _∙_}
 use mathlib.Core.Logic.{⊎-elim}
-use mathlib.Core.Bool.{false≢true, Bool, true, false, cond, _&&_, not}
-use mathlib.Core.List.{List, _∷_, _++_}
+use mathlib.Core.Bool.{false≢true, Bool, true, false, cond, _&&_}
+use mathlib.Core.List.{List, _++_}
 use native.Mathlib.Omega.{arith}
 use lib.ListN.{length, take, drop, length-take}
 use lib.Dec.{eqb, ltb}
-use borrow.Author.Tests.{ltb-true, ltb-false, eqb-true, lt-ltb, le-ltb}
+use borrow.Author.Tests.{ltb-true, ltb-false, eqb-true, lt-ltb, le-ltb, not-false}
 use Rattle.laws.specs.Tests.{and, decided}
 use Rattle.laws.specs.Below.{First, first-tells, first-same, count-le}
-use Rattle.laws.specs.Refusals.{firstOf, testAt, refusalAt, Past, refused-at, past-all}
+use Rattle.laws.specs.Refusals.{firstOf, testAt, refusalAt, Past, refused-at, past-all, first-elim, first-both}
 use Rattle.map.specs.declared.Header.{Header}
 use Rattle.map.specs.declared.Entry.{Entry}
 use Rattle.map.specs.Map.{headerOf, entryOf, zeroizable, slot, mapGood}
@@ -22,6 +22,7 @@ use Rattle.partition.specs.declared.State.the-variants.{Erased, Torn, Blank, Pr
 use Rattle.cache.specs.Cache.{cacheOf, hasPlace}
 use Rattle.cache.specs.declared.Sought.the-variants.{Held}
 use Rattle.drive.specs.declared.Terms.{Terms}
+use Rattle.drive.specs.declared.Check.{Check}
 use Rattle.drive.specs.declared.Check.the-variants.{Ready, Refused}
 use Rattle.drive.specs.declared.ActiveSlot.{ActiveSlot}
 use Rattle.drive.specs.declared.ActiveSlot.the-variants.{Programmed as ProgrammedSlot, Absent}
@@ -51,38 +52,41 @@ pub record Judged (image cells marks : List ℕ) (header : Header) : Type 0 wher
   pub marks-long : length marks ≡ headerOf image .cells
   pub header-is : header ≡ headerOf image
 
-judged-by : (good arrays : Bool) (header h : Header) → Ready h ≡ cond (not good) (Refused 1) (cond (not arrays) (Refused 2) (Ready header)) → (good ≡ true) × (arrays ≡ true) × (h ≡ header)
-judged-by true true header h e = (refl, refl, cc)
-judged-by true false header h e = absurd (let z : _≡_ {A = ℕ} 0 1 = cc in omega arith)
-judged-by false arrays header h e = absurd (let z : _≡_ {A = ℕ} 0 1 = cc in omega arith)
+-- a refusal is not ready
+not-ready : {n : ℕ} {header : Header} → Ready header ≡ Refused n → ⊥
+not-ready e = let z : _≡_ {A = ℕ} 0 1 = cc in omega arith
 
 pub judged : (image cells marks : List ℕ) (header : Header) → Ready header ≡ checkOf image cells marks → Judged image cells marks header
 unfolding checkOf wholeArrays
-judged image cells marks header e =
-    let told = judged-by _ _ _ _ e in
-    let arrays = and (eqb (length cells) (headerOf image .cells)) (eqb (length marks) (headerOf image .cells)) (told .1) in
-    record { whole = record { good = told .0; long = eqb-true _ _ (arrays .0) }; marks-long = eqb-true _ _ (arrays .1); header-is = told .2 }
+judged image cells marks header =
+    first-elim (λ (check : Check). Ready header ≡ check → Judged image cells marks header) Refused (driveTests image cells marks) (Ready (headerOf image))
+    (λ n _ e. absurd (not-ready e))
+    (λ none e.
+    let arrays = and (eqb (length cells) (headerOf image .cells)) (eqb (length marks) (headerOf image .cells)) (not-false _ (none 1)) in
+    record {
+      whole = record { good = not-false _ (none 0); long = eqb-true _ _ (arrays .0) };
+      marks-long = eqb-true _ _ (arrays .1);
+      header-is = cc;
+    })
 
 -- a call's refusals begin with the drive's: what the check answers, the whole list answers
-module _ {A : Type 0} (refuse : ℕ → A) (rest : List (Bool × ℕ)) (accepted : A) where
-  refused-by : (good arrays : Bool) (header : Header) (n : ℕ) → Refused n ≡ cond (not good) (Refused 1) (cond (not arrays) (Refused 2) (Ready header))
-      → firstOf refuse ((not good, 1) ∷ (not arrays, 2) ∷ rest) accepted ≡ refuse n
-  refused-by true true header n e = absurd (let z : _≡_ {A = ℕ} 0 1 = cc in omega arith)
-  refused-by true false header n e = let z : n ≡ 2 = cc in rw z
-  refused-by false arrays header n e = let z : n ≡ 1 = cc in rw z
-
-  passed-by : (good arrays : Bool) (header h : Header) → Ready h ≡ cond (not good) (Refused 1) (cond (not arrays) (Refused 2) (Ready header))
-      → firstOf refuse ((not good, 1) ∷ (not arrays, 2) ∷ rest) accepted ≡ firstOf refuse rest accepted
-  passed-by good arrays header h e = let told = judged-by good arrays header h e in rw (told .0, told .1)
-
-  pub check-refused : (image cells marks : List ℕ) (n : ℕ) → Refused n ≡ checkOf image cells marks → firstOf refuse (driveTests image cells marks ++ rest) accepted ≡ refuse n
+module _ {A : Type 0} (refuse : ℕ → A) (rest : List (Bool × ℕ)) (accepted : A) (image cells marks : List ℕ) where
+  pub check-refused : (n : ℕ) → Refused n ≡ checkOf image cells marks → firstOf refuse (driveTests image cells marks ++ rest) accepted ≡ refuse n
   unfolding checkOf
-  check-refused image cells marks n e = refused-by (mapGood image) (wholeArrays image cells marks) (headerOf image) n e
+  check-refused n =
+      first-both (λ (check : Check) (a : A). Refused n ≡ check → a ≡ refuse n) Refused refuse (driveTests image cells marks)
+      (Ready (headerOf image)) (firstOf refuse rest accepted)
+      (λ m _ e. let same : n ≡ m = cc in rw same)
+      (λ _ e. absurd (not-ready (sym e)))
 
-  pub check-passed : (image cells marks : List ℕ) (header : Header) → Ready header ≡ checkOf image cells marks
+  pub check-passed : (header : Header) → Ready header ≡ checkOf image cells marks
       → firstOf refuse (driveTests image cells marks ++ rest) accepted ≡ firstOf refuse rest accepted
   unfolding checkOf
-  check-passed image cells marks header e = passed-by (mapGood image) (wholeArrays image cells marks) (headerOf image) header e
+  check-passed header =
+      first-both (λ (check : Check) (a : A). Ready header ≡ check → a ≡ firstOf refuse rest accepted) Refused refuse (driveTests image cells marks)
+      (Ready (headerOf image)) (firstOf refuse rest accepted)
+      (λ m _ e. absurd (not-ready e))
+      (λ _ e. refl)
 
 -- ---- the active slot, by where a walk over the slots ended
 

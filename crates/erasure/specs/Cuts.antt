@@ -95,7 +95,7 @@ module _ (image marks : List ℕ) (i k mask : ℕ) (s : State) where
   unfolding eraseOf
   late-is-uncut =
       first-both (λ (o u : Outcome Answer State). burnsIn (u .told) ≤ k → o ≡ u) (refusing unburned s) (refusing unburned s) tests (accepted image marks i k mask s) uncut
-      (λ n late. refl)
+      (λ n _ late. refl)
       (λ none late.
       let r = runOn image (s .cells) marks i never 0 in
       ap (λ (x : Ran). onCells s (ranOf image i x))
@@ -108,7 +108,7 @@ module _ (image marks : List ℕ) (i k mask : ℕ) (s : State) where
   early-is-cut =
       first-both (λ (o u : Outcome Answer State). k < burnsIn (u .told) → isCut (o .told) ≡ true)
       (refusing unburned s) (refusing unburned s) tests (accepted image marks i k mask s) uncut
-      (λ n early. absurd (omega arith))
+      (λ n _ early. absurd (omega arith))
       (λ none early.
       let r = runOn image (s .cells) marks i never 0 in
       rw

@@ -65,7 +65,8 @@ not-refused command secret bound word l = omega (arith, carried-answers command 
 -- a reply that refuses tells the effect's number
 reply-number : (e : Effect) (n : ℕ) → refusal (Replying (replyOf e) []) ≡ suc n → e .refusal ≡ suc n
 reply-number e n =
-    cond-keeps (λ (r : Reply). refusal (Replying r []) ≡ suc n → e .refusal ≡ suc n) (eqb (e .refusal) 0) (Accepted (lengthOf (responseFields (e .command) (e .numbers))) (e .order)) (Refused (e .refusal))
+    cond-keeps (λ (r : Reply). refusal (Replying r []) ≡ suc n → e .refusal ≡ suc n) (eqb (e .refusal) 0)
+    (Accepted (lengthOf (responseFields (e .command) (e .numbers))) (e .order)) (Refused (e .refusal))
     (λ _ y. absurd (omega arith)) (λ _ y. y)
 
 has-number : (e : Effect) → 1 ≤ refusal (Replying (replyOf e) []) → e .refusal ≡ 0 → ⊥

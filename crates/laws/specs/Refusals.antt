@@ -66,32 +66,30 @@ none-of : (number : ℕ) (tests : List (Bool × ℕ)) → ((k : ℕ) → testAt 
 none-of number tests h zero = refl
 none-of number tests h (suc k) = h k
 
--- what holds of every refusal that applies, and of what an accepted call answers where no test applies, holds of the answer
-pub first-elim : {A : Type 0} (P : A → Type 0) (refuse : ℕ → A) (tests : List (Bool × ℕ)) (accepted : A) → ((n : ℕ) → Applies n tests → P (refuse n))
-    → (((k : ℕ) → testAt tests k ≡ false) → P accepted) → P (firstOf refuse tests accepted)
-first-elim P refuse [] accepted r a = a (λ k. refl)
-first-elim P refuse ((true, n) ∷ tests) accepted r a = r n (inl (refl, refl))
-first-elim P refuse ((false, n) ∷ tests) accepted r a = first-elim P refuse tests accepted (λ m q. r m (inr q)) (λ h. a (none-of n tests h))
-
--- of two answers by the same tests, what holds of both refusals of one number, and of both accepted answers, holds of both
+-- of two answers by the same tests, what holds of both refusals of one number that applies, and of both accepted answers where no test
+-- applies, holds of both
 pub first-both : {A B : Type 0} (P : A → B → Type 0) (refuse : ℕ → A) (refuse′ : ℕ → B) (tests : List (Bool × ℕ)) (accepted : A) (accepted′ : B)
-    → ((n : ℕ) → P (refuse n) (refuse′ n)) → (((k : ℕ) → testAt tests k ≡ false) → P accepted accepted′)
+    → ((n : ℕ) → Applies n tests → P (refuse n) (refuse′ n)) → (((k : ℕ) → testAt tests k ≡ false) → P accepted accepted′)
     → P (firstOf refuse tests accepted) (firstOf refuse′ tests accepted′)
 first-both P refuse refuse′ [] accepted accepted′ r a = a (λ k. refl)
-first-both P refuse refuse′ ((true, n) ∷ tests) accepted accepted′ r a = r n
-first-both P refuse refuse′ ((false, n) ∷ tests) accepted accepted′ r a = first-both P refuse refuse′ tests accepted accepted′ r (λ h. a (none-of n tests h))
+first-both P refuse refuse′ ((true, n) ∷ tests) accepted accepted′ r a = r n (inl (refl, refl))
+first-both P refuse refuse′ ((false, n) ∷ tests) accepted accepted′ r a =
+    first-both P refuse refuse′ tests accepted accepted′ (λ m q. r m (inr q)) (λ h. a (none-of n tests h))
+
+-- and so of one answer
+pub first-elim : {A : Type 0} (P : A → Type 0) (refuse : ℕ → A) (tests : List (Bool × ℕ)) (accepted : A) → ((n : ℕ) → Applies n tests → P (refuse n))
+    → (((k : ℕ) → testAt tests k ≡ false) → P accepted) → P (firstOf refuse tests accepted)
+first-elim P refuse tests accepted = first-both (λ a _. P a) refuse refuse tests accepted accepted
 
 -- so what is made of an answer is made of its refusals and of what an accepted call answers
 pub first-map : {A B : Type 0} (f : A → B) (refuse : ℕ → A) (tests : List (Bool × ℕ)) (accepted : A)
     → f (firstOf refuse tests accepted) ≡ firstOf (λ n. f (refuse n)) tests (f accepted)
-first-map f refuse tests accepted = first-both (λ a b. f a ≡ b) refuse (λ n. f (refuse n)) tests accepted (f accepted) (λ n. refl) (λ none. refl)
+first-map f refuse tests accepted = first-both (λ a b. f a ≡ b) refuse (λ n. f (refuse n)) tests accepted (f accepted) (λ n _. refl) (λ none. refl)
 
 -- and two ways to refuse that agree on the refusals that apply give the same
 pub first-agree : {A : Type 0} (refuse refuse′ : ℕ → A) (tests : List (Bool × ℕ)) (accepted : A)
     → ((n : ℕ) → Applies n tests → refuse n ≡ refuse′ n) → firstOf refuse tests accepted ≡ firstOf refuse′ tests accepted
-first-agree refuse refuse′ [] accepted h = refl
-first-agree refuse refuse′ ((true, n) ∷ tests) accepted h = h n (inl (refl, refl))
-first-agree refuse refuse′ ((false, n) ∷ tests) accepted h = first-agree refuse refuse′ tests accepted (λ m a. h m (inr a))
+first-agree refuse refuse′ tests accepted h = first-both (λ a b. a ≡ b) refuse refuse′ tests accepted accepted h (λ none. refl)
 
 -- where every refusal that applies shows, an answer that shows none tells that no test applies
 pub accepted-tells : {A : Type 0} (refuse : ℕ → A) (shows : A → Bool) (tests : List (Bool × ℕ)) (accepted : A)

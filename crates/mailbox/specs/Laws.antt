@@ -191,8 +191,9 @@ still : (n : ℕ) → (n ≡ 0 → ⊥) → (cells request : List ℕ) (l : Lent
     → outcome (Refused n) (lent (withCells cells (l .state)) (l .response) (l .block)) ≡ carriedOut request l (outcome (refused n) cells)
 still n o cells request l = rw (ne-eqb n 0 o)
 
--- the buffers are long enough, and the request of a load has its length
-pub record Carried (order : Order) (request response block : List ℕ) : Type 0 where
+-- the request has its command's length, and the buffers are long enough
+pub record Carried (code : ℕ) (order : Order) (request response block : List ℕ) : Type 0 where
+  pub asked : length request ≡ lengthOf (requestFields (commandOf code))
   pub fits : Fits order request block
   pub room : leastRoom ≤ length response
 
@@ -204,7 +205,7 @@ module _ (image marks : List ℕ) (code : ℕ) (request : List ℕ) (l : Lent) {
   numbered : Numbered allTests
   numbered = numbered-by (commandOf code) image marks code request (buffersBad (length (l .response)) (length (l .block))) (l .state)
 
-  pub carried : e .refusal ≡ 0 → Carried (e .order) request (l .response) (l .block)
+  pub carried : e .refusal ≡ 0 → Carried code (e .order) request (l .response) (l .block)
   unfolding doneOf requestTests
   carried z =
       let told = accepted-tells (refusing refused (l .state .cells)) (λ (o : Outcome Effect (List ℕ)). not (eqb (o .told .refusal) 0)) allTests
@@ -213,12 +214,14 @@ module _ (image marks : List ℕ) (code : ℕ) (request : List ℕ) (l : Lent) {
       (ap (λ (o : Outcome Effect (List ℕ)). not (eqb (o .told .refusal) 0)) (sym d) ∙ ap not (eq-eqb _ _ z)) in
       let is : e .order ≡ accepted (commandOf code) image marks request (l .state) .told .order = ap (λ (o : Outcome Effect (List ℕ)). o .told .order) (d ∙ told .is) in
       let buffers = neither (not (eqb (length (l .block)) 128)) (ltb (length (l .response)) leastRoom) (told .none 2) in
+      let asked : length request ≡ lengthOf (requestFields (commandOf code)) = eqb-true _ _ (not-false _ (told .none 4)) in
       record {
+        asked = asked;
         fits = record {
           block-long = eqb-true _ _ (not-false _ (buffers .0));
           request-long = λ y.
-              subst (λ (command : Command). length request ≡ lengthOf (requestFields command)) (load-only (commandOf code) image marks request (l .state) (rw is at y))
-              (eqb-true _ _ (not-false _ (told .none 4)));
+              subst (λ (command : Command). length request ≡ lengthOf (requestFields command))
+              (load-only (commandOf code) image marks request (l .state) (rw is at y)) asked;
         };
         room = ltb-false _ _ (buffers .1);
       }

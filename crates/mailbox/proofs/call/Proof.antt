@@ -22,7 +22,7 @@ was c =
 carried-at : (c : tie.Else1) →
     let done = c .before .before .before .before in
     let a = done .before .before .before .before .before .before .before .before .before .args in
-    Carried (done .effect-of .result .order) (a .request .now) (a .response .now) (a .block .now)
+    Carried (a .code) (done .effect-of .result .order) (a .request .now) (a .response .now) (a .block .now)
 carried-at c = let done = c .before .before .before .before in carried _ _ _ _ (was done) (done .effect-of .ensures) (c .if1 .left)
 
 returns : tie.Need-returns
