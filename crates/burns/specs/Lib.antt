@@ -2,4 +2,5 @@ pub mod Run
 pub mod Turns
 pub mod Cells
 pub mod Safe
+pub mod Ends
 pub mod Vectors

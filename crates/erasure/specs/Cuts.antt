@@ -17,7 +17,7 @@ use Rattle.burns.specs.declared.End.{End}
 use Rattle.burns.specs.declared.End.the-variants.{Whole, Stopped, Cut as CutEnd}
 use Rattle.burns.specs.Run.{Tally, Ran, order}
 use Rattle.burns.specs.Turns.{order-fewer}
-use Rattle.burns.specs.Safe.{run-late, run-early, run-burns, never-cut}
+use Rattle.burns.specs.Ends.{run-late, run-early, run-burns, never-cut}
 use Rattle.drive.specs.Drive.{Whole as WholeDrive, wholeArrays, cellsOf}
 use Rattle.erasure.specs.declared.Answer.{Answer}
 use Rattle.erasure.specs.declared.Answer.the-variants.{Ended, Cut, Refused}
