@@ -5,7 +5,7 @@ use mathlib.Core.Bool.{Bool, true, false, cond}
 use mathlib.Core.List.{List, [], _∷_, _++_, map}
 use lib.Dec.{eqb}
 use lib.ListN.{length, take, drop}
-use Rattle.laws.specs.Tests.{holds}
+use Rattle.laws.specs.Tests.{isYes}
 use Rattle.endian.specs.Endian.{u32At, bytes4}
 use Rattle.chksum.specs.Chksum.{summed}
 use Rattle.codec.specs.declared.Numbers.{Numbers}
@@ -63,7 +63,7 @@ pub data Field : Type 0 where
 
 -- one field
 abbrev pub same : Field → Field → Bool
-same f g = holds (field-discrete f g)
+same f g = isYes (field-discrete f g)
 
 -- "Little-endian u32 fields"; "64 MEK bytes"
 abbrev pub width : Field → ℕ

@@ -12,7 +12,7 @@ use lib.Dec.{eqb}
 use lib.ListN.{length, getD, take, drop, length-take}
 use lib.Seq.{take-at, take-suc, drop-append-add}
 use borrow.Author.Tests.{eqb-true}
-use Rattle.laws.specs.Tests.{decided, not-yes, and, holds-yes, neither}
+use Rattle.laws.specs.Tests.{decided, not-yes, and, is-yes, neither}
 use Rattle.laws.specs.Refusals.{numberOf, testAt, refusalAt, Past, refused-at, past-all}
 use Rattle.laws.specs.Put.{Put}
 use Rattle.endian.specs.Endian.{u32-at, bytes4}
@@ -48,7 +48,7 @@ indexOf field [] = 0
 indexOf field (f ∷ fields) = cond (same field f) 0 (suc (indexOf field fields))
 
 same-is : (f g : Field) → same f g ≡ true → f ≡ g
-same-is f g = holds-yes (field-discrete f g)
+same-is f g = is-yes (field-discrete f g)
 
 -- each field has the bytes that its width says
 abbrev pub sized : List Field → (parts : List (List ℕ)) → Bool

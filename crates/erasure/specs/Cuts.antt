@@ -21,21 +21,18 @@ use Rattle.burns.specs.Ends.{run-late, run-early, run-burns, never-cut}
 use Rattle.drive.specs.Drive.{Whole as WholeDrive, wholeArrays, cellsOf}
 use Rattle.erasure.specs.declared.Answer.{Answer}
 use Rattle.erasure.specs.declared.Answer.the-variants.{Ended, Cut, Refused}
-use Rattle.erasure.specs.Erasure.{eraseTests, inWhole, runOn, never, answerBy, ranOf, unburned, eraseOf, erasureOf, isCut}
+use Rattle.erasure.specs.Erasure.{eraseTests, inWhole, runOn, never, answerBy, ranOf, unburned, burning, eraseOf, erasureOf, isCut}
 use Rattle.erasure.specs.Laws.{part-long, part-small}
 
 -- "Checked in ascending order; the lowest that applies is given, and none is given otherwise"
 module _ (image marks : List ℕ) (i k mask : ℕ) (s : State) where
-  abbrev accepted : Outcome Answer State
-  accepted = onCells s (ranOf image i (runOn image (s .cells) marks i k mask))
-
-  pub erase-first : GivenFirst (refusing unburned s) (eraseTests image marks i s) accepted (eraseOf image marks i k mask s)
+  pub erase-first : GivenFirst (refusing unburned s) (eraseTests image marks i s) (burning image marks i k mask s) (eraseOf image marks i k mask s)
   unfolding eraseOf
-  erase-first = given-first (refusing unburned s) accepted (eraseTests image marks i s)
+  erase-first = given-first (refusing unburned s) (burning image marks i k mask s) (eraseTests image marks i s)
 
-  pub erase-lowest : GivenLowest (refusing unburned s) (eraseTests image marks i s) accepted (eraseOf image marks i k mask s)
+  pub erase-lowest : GivenLowest (refusing unburned s) (eraseTests image marks i s) (burning image marks i k mask s) (eraseOf image marks i k mask s)
   unfolding eraseOf
-  erase-lowest = lowest-tells (refusing unburned s) accepted 1 (eraseTests image marks i s) refl
+  erase-lowest = lowest-tells (refusing unburned s) (burning image marks i k mask s) 1 (eraseTests image marks i s) refl
 
 -- ---- the order of a partition is shorter than any cut that an erasure names which is not cut
 
@@ -86,15 +83,11 @@ module _ (image marks : List ℕ) (i k mask : ℕ) (s : State) where
   abbrev tests : List (Bool × ℕ)
   tests = eraseTests image marks i s
 
-  -- the erasure where no test applies, uncut
-  abbrev uncut : Outcome Answer State
-  uncut = onCells s (ranOf image i (runOn image (s .cells) marks i never 0))
-
   -- "If the erasure would end before burn k, it runs as uncut", and is then "uncut" though it names a cut
   pub late-is-uncut : burnsIn (erasureOf image marks i s .told) ≤ k → eraseOf image marks i k mask s ≡ erasureOf image marks i s
   unfolding eraseOf
   late-is-uncut =
-      first-both (λ (o u : Outcome Answer State). burnsIn (u .told) ≤ k → o ≡ u) (refusing unburned s) (refusing unburned s) tests (accepted image marks i k mask s) uncut
+      first-both (λ (o u : Outcome Answer State). burnsIn (u .told) ≤ k → o ≡ u) (refusing unburned s) (refusing unburned s) tests (burning image marks i k mask s) (burning image marks i never 0 s)
       (λ n _ late. refl)
       (λ none late.
       let r = runOn image (s .cells) marks i never 0 in
@@ -107,7 +100,7 @@ module _ (image marks : List ℕ) (i k mask : ℕ) (s : State) where
   unfolding eraseOf
   early-is-cut =
       first-both (λ (o u : Outcome Answer State). k < burnsIn (u .told) → isCut (o .told) ≡ true)
-      (refusing unburned s) (refusing unburned s) tests (accepted image marks i k mask s) uncut
+      (refusing unburned s) (refusing unburned s) tests (burning image marks i k mask s) (burning image marks i never 0 s)
       (λ n _ early. absurd (omega arith))
       (λ none early.
       let r = runOn image (s .cells) marks i never 0 in
@@ -119,7 +112,7 @@ module _ (image marks : List ℕ) (i k mask : ℕ) (s : State) where
 pub erasure-uncut : (image marks : List ℕ) (i : ℕ) (s : State) → isCut (erasureOf image marks i s .told) ≡ false
 unfolding eraseOf
 erasure-uncut image marks i s =
-    first-elim (λ (o : Outcome Answer State). isCut (o .told) ≡ false) (refusing unburned s) (eraseTests image marks i s) (accepted image marks i never 0 s)
+    first-elim (λ (o : Outcome Answer State). isCut (o .told) ≡ false) (refusing unburned s) (eraseTests image marks i s) (burning image marks i never 0 s)
     (λ n _. refl)
     (λ none. by (runOn image (s .cells) marks i never 0 .end)
     (λ e. uncut-judged image (s .cells) i (whole-by image (s .cells) marks (not-false _ (none 0)) (not-false _ (none 1))) (leb-false _ _ (none 2)) marks 0 e))
@@ -149,7 +142,7 @@ pub burns-told : (image marks : List ℕ) (i k mask : ℕ) (s : State) → Burns
 unfolding eraseOf
 burns-told image marks i k mask s =
     let tests = eraseTests image marks i s in
-    first-elim (λ (o : Outcome Answer State). BurnsTold image i k (o .told)) (refusing unburned s) tests (accepted image marks i k mask s)
+    first-elim (λ (o : Outcome Answer State). BurnsTold image i k (o .told)) (refusing unburned s) tests (burning image marks i k mask s)
     (λ n a. rw (ne-eqb n 15 (λ e. not-applies 15 tests refl (subst (λ (m : ℕ). Applies m tests) e a))))
     (λ none. run-tells image (s .cells) marks i k mask (whole-by image (s .cells) marks (not-false _ (none 0)) (not-false _ (none 1))) (leb-false _ _ (none 2))
     (runOn image (s .cells) marks i k mask .end) refl)

@@ -90,10 +90,13 @@ uncutOf image cells marks i = ranOf image i (runOn image cells marks i never 0)
 abbrev pub unburned : (number : ℕ) → Answer
 unburned number = Refused number 0
 
+-- what an erasure does that no test refuses: its run on the state's cells
+abbrev pub burning : (image marks : List ℕ) (i k mask : ℕ) → State → Outcome Answer State
+burning image marks i k mask s = onCells s (ranOf image i (runOn image (s .cells) marks i k mask))
+
 -- an erasure of partition i, cut at burn k if its order reaches it
 unfoldable pub eraseOf : (image marks : List ℕ) (i k mask : ℕ) → State → Outcome Answer State
-eraseOf image marks i k mask s =
-    firstOf (refusing unburned s) (eraseTests image marks i s) (onCells s (ranOf image i (runOn image (s .cells) marks i k mask)))
+eraseOf image marks i k mask s = firstOf (refusing unburned s) (eraseTests image marks i s) (burning image marks i k mask s)
 
 -- the erasure
 abbrev pub erasureOf : (image marks : List ℕ) (i : ℕ) → State → Outcome Answer State

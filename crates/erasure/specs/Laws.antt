@@ -27,7 +27,7 @@ use Rattle.drive.specs.Laws.{check-refused, check-passed, judged, part-is, shor
 use Rattle.cache.specs.Cache.{emptied}
 use Rattle.erasure.specs.declared.Answer.{Answer}
 use Rattle.erasure.specs.declared.Answer.the-variants.{Ended, Refused}
-use Rattle.erasure.specs.Erasure.{partitionTests, Erasable, inWhole, runOn, firstShort, answerBy, ranOf, unburned, eraseOf, isCut, afterCut}
+use Rattle.erasure.specs.Erasure.{partitionTests, Erasable, inWhole, runOn, firstShort, answerBy, ranOf, unburned, burning, eraseOf, isCut, afterCut}
 
 -- ---- which of the partition's tests gives the number, by the test's place; 0 where none does
 
@@ -118,31 +118,27 @@ run-left image i {cells = cells} e q = ap (λ (answer : Answer). outcome answer 
 -- ---- an erasure, by where its judging ends
 
 module _ (image marks : List ℕ) (i k mask : ℕ) (s : State) where
-  -- what it does where no test applies
-  abbrev accepted : Outcome Answer State
-  accepted = onCells s (ranOf image i (runOn image (s .cells) marks i k mask))
-
   pub erase-drive : (n : ℕ) → NotReady n ≡ checkOf image (s .cells) marks → outcome (Refused n 0) s ≡ eraseOf image marks i k mask s
   unfolding eraseOf
-  erase-drive n e = sym (check-refused (refusing unburned s) (partitionTests image i (s .context)) accepted image (s .cells) marks n e)
+  erase-drive n e = sym (check-refused (refusing unburned s) (partitionTests image i (s .context)) (burning image marks i k mask s) image (s .cells) marks n e)
 
   module _ {header : Header} (e : Ready header ≡ checkOf image (s .cells) marks) where
-    past-drive : eraseOf image marks i k mask s ≡ firstOf (refusing unburned s) (partitionTests image i (s .context)) accepted
+    past-drive : eraseOf image marks i k mask s ≡ firstOf (refusing unburned s) (partitionTests image i (s .context)) (burning image marks i k mask s)
     unfolding eraseOf
-    past-drive = check-passed (refusing unburned s) (partitionTests image i (s .context)) accepted image (s .cells) marks header e
+    past-drive = check-passed (refusing unburned s) (partitionTests image i (s .context)) (burning image marks i k mask s) image (s .cells) marks header e
 
     pub erase-refused : (n : ℕ) → n ≡ numberOf (partitionTests image i (s .context)) → (n ≡ 0 → ⊥) → outcome (Refused n 0) s ≡ eraseOf image marks i k mask s
-    erase-refused n q o = sym (past-drive ∙ number-refuses (refusing unburned s) [] accepted (partitionTests image i (s .context)) n q o)
+    erase-refused n q o = sym (past-drive ∙ number-refuses (refusing unburned s) [] (burning image marks i k mask s) (partitionTests image i (s .context)) n q o)
 
     module _ (none : 0 ≡ numberOf (partitionTests image i (s .context))) where
       pub erase-runs : {answer : Answer} {cells : List ℕ} → outcome answer cells ≡ ranOf image i (runOn image (s .cells) marks i k mask)
           → outcome answer (withCells cells s) ≡ eraseOf image marks i k mask s
-      erase-runs q = ap (onCells s) q ∙ sym (past-drive ∙ number-passes (refusing unburned s) [] accepted (partitionTests image i (s .context)) refl none .is)
+      erase-runs q = ap (onCells s) q ∙ sym (past-drive ∙ number-passes (refusing unburned s) [] (burning image marks i k mask s) (partitionTests image i (s .context)) refl none .is)
 
       pub erasable : Erasable image (s .cells) marks i
       erasable =
           let told = judged image (s .cells) marks header e in
-          let passed = number-passes (refusing unburned s) [] accepted (partitionTests image i (s .context)) refl none in
+          let passed = number-passes (refusing unburned s) [] (burning image marks i k mask s) (partitionTests image i (s .context)) refl none in
           record { whole = told .whole; marks-long = told .marks-long ∙ sym (told .whole .long); partition = leb-false _ _ (passed .none 0); may = not-false _ (passed .none 1) }
 
 -- ---- a cut erasure, with its context

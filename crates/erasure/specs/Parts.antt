@@ -8,6 +8,7 @@ use native.Mathlib.Omega.{arith}
 use lib.ListN.{length, getD, take, drop, length-append, length-take, length-drop, List·getD-append}
 use lib.Seq.{getD-take, getD-drop, getD-append-add, length-take-le, take-at, drop-at, ext-getD}
 use Rattle.laws.specs.Tests.{lt-or-le}
+use Rattle.context.specs.Laws.{part-at}
 use Rattle.map.specs.Map.{headerOf, entryOf, endOf, software}
 use Rattle.burns.specs.Run.{run}
 use Rattle.burns.specs.Safe.{length-run}
@@ -19,16 +20,12 @@ use Rattle.erasure.specs.Laws.{part-long, part-end}
 abbrev pub Outside : (image : List ℕ) (i j : ℕ) → Type 0
 Outside image i j = (j < entryOf image i .first) ⊎ (endOf (entryOf image i) ≤ j)
 
--- cell j of the part is the array's cell j past the partition's first
-part-at : (image cells : List ℕ) (i j : ℕ) → j < entryOf image i .n → getD (cellsOf image cells i) j 0 ≡ getD cells (entryOf image i .first + j) 0
-part-at image cells i j l = getD-take (entryOf image i .n) (drop (entryOf image i .first) cells) j 0 l ∙ getD-drop (entryOf image i .first) cells j 0
-
--- so a cell of the array that lies in the partition is one of the part
+-- a cell of the array that lies in the partition is one of the part
 pub array-at : (image cells : List ℕ) (i j : ℕ) → entryOf image i .first ≤ j → j < endOf (entryOf image i) → getD (cellsOf image cells i) (j - entryOf image i .first) 0 ≡ getD cells j 0
 array-at image cells i j low high =
     let at = j - entryOf image i .first in
     let same : entryOf image i .first + at ≡ j = omega arith in
-    part-at image cells i at (omega arith) ∙ ap (λ (k : ℕ). getD cells k 0) same
+    part-at (entryOf image i .first) (entryOf image i .n) cells at (omega arith) ∙ ap (λ (k : ℕ). getD cells k 0) same
 
 -- other cells in the place of the partition's
 module _ (image cells : List ℕ) (i : ℕ) (part : List ℕ) (within : endOf (entryOf image i) ≤ length cells) (long : length part ≡ entryOf image i .n) where
@@ -119,4 +116,5 @@ run-apart image cells marks i k mask whole l j apart =
     (λ (a : endOf (entryOf image i) ≤ entryOf image j .first). inr (omega arith))
     (λ (a : endOf (entryOf image j) ≤ entryOf image i .first). inl (omega arith))
     apart in
-    part-at image after j m in-part ∙ run-outside image cells marks i k mask whole l (entryOf image j .first + m) out ∙ sym (part-at image cells j m in-part))
+    let cell = entryOf image j .first in
+    part-at cell n after m in-part ∙ run-outside image cells marks i k mask whole l (cell + m) out ∙ sym (part-at cell n cells m in-part))

@@ -11,7 +11,7 @@ use lib.Seq.{take-at}
 use borrow.Author.Tests.{not-false, leb-false, ne-eqb}
 use Rattle.laws.specs.Tests.{decided, cond-keeps}
 use Rattle.laws.specs.Refusals.{firstOf, first-elim, Applies, anyApplies, numberOf, any-refuses, none-accepts, number-applies, not-applies, applies-least}
-use Rattle.context.specs.State.{State, Outcome, outcome, refusing, telling, onCells}
+use Rattle.context.specs.State.{State, Outcome, outcome, refusing}
 use Rattle.cache.specs.Cache.{cacheOf, hasPlace, emptied}
 use Rattle.cache.specs.Laws.{emptied-held}
 use Rattle.cache.specs.declared.Sought.the-variants.{Held}
@@ -19,7 +19,7 @@ use Rattle.burns.specs.declared.End.{End}
 use Rattle.burns.specs.declared.End.the-variants.{Whole, Stopped, Cut as CutEnd}
 use Rattle.burns.specs.Run.{Tally}
 use Rattle.erasure.specs.declared.Answer.{Answer}
-use Rattle.erasure.specs.Erasure.{never, runOn, answerBy, ranOf, unburned, eraseTests, eraseOf, uncutOf, isCut}
+use Rattle.erasure.specs.Erasure.{never, runOn, answerBy, unburned, eraseTests, burning, eraseOf, uncutOf, isCut}
 use Rattle.erasure.specs.Cuts.{uncut-judged}
 use Rattle.codec.specs.declared.Command.the-variants.{Fers}
 use Rattle.codec.specs.Fields.{codeOf, responseFields, lengthOf, responseOf, responseIn}
@@ -28,7 +28,7 @@ use Rattle.codec.specs.Laws.{response-long}
 use Rattle.mailbox.specs.declared.Effect.{Effect}
 use Rattle.mailbox.specs.declared.Reply.the-variants.{Refused, Accepted as Accepted′}
 use Rattle.mailbox.specs.Laws.{fers-orders}
-use Rattle.mailbox.specs.Mailbox.{refused, fersOf, partitionIn, accepted, mailboxTests, doneOf, contextAfter, responseAfter, replyOf, Lent, lent, carriedOut}
+use Rattle.mailbox.specs.Mailbox.{refused, fersOf, partitionIn, accepted, mailboxTests, doneOf, contextAfter, responseAfter, replyOf, Lent, lent, writtenOut}
 use Rattle.history.specs.Calls.{keyHeld, Call, Direct, Erase, EraseCut, Mailbox, Restart, Told, Replying, lengthIn, replying, told, refusal, after}
 use Rattle.history.specs.Demand3.{Attempt, withBuffers, SameLengths}
 use Rattle.history.specs.Forms.{Does, Quiet, quiet, arrays-same, held-same, Ready, whole-at, Form, refuses, runs, erase-form, cut-uncut}
@@ -55,7 +55,7 @@ fers-late image i t Whole l m = omega arith
 fers-late image i t Stopped l m = omega arith
 fers-late image i t CutEnd l m = omega arith
 
-refused-tells : (n : ℕ) → eqb n 0 ≡ false → (l : Lent) (request cells : List ℕ) → replying (carriedOut request l (outcome (refused n) cells)) .told ≡ Replying (Refused n) []
+refused-tells : (n : ℕ) → eqb n 0 ≡ false → (l : Lent) (request cells : List ℕ) → replying (writtenOut request l (outcome (refused n) cells)) .told ≡ Replying (Refused n) []
 refused-tells n o l request cells = rw o
 
 module _ (image marks cells request response block : List ℕ) where
@@ -70,7 +70,7 @@ module _ (image marks cells request response block : List ℕ) where
 
   -- what it does where no test applies
   abbrev erased : State → Outcome Effect (List ℕ)
-  erased s = telling fersOf (uncutOf image (s .cells) marks p)
+  erased s = accepted Fers image marks request s
 
   fersTests : List (Bool × ℕ)
   fersTests = mailboxTests image marks (codeOf Fers) request (length response) (length block) (quiet cells)
@@ -86,10 +86,10 @@ module _ (image marks cells request response block : List ℕ) where
     by-fers = rw (l .0, l .1, arrays-same image marks cells s q, held-same cells s q)
 
     -- what is told and left, by what was done
-    fers-told : {d : Outcome Effect (List ℕ)} {t : Told} → doing s response′ block′ ≡ d → replying (carriedOut request (lent s response′ block′) d) .told ≡ t
+    fers-told : {d : Outcome Effect (List ℕ)} {t : Told} → doing s response′ block′ ≡ d → replying (writtenOut request (lent s response′ block′) d) .told ≡ t
         → Does image marks (withBuffers call response′ block′) s t (d .after)
     fers-told e f =
-        (ap (λ (d : Outcome Effect (List ℕ)). replying (carriedOut request (lent s response′ block′) d) .told) e ∙ f, ap (λ (d : Outcome Effect (List ℕ)). d .after) e)
+        (ap (λ (d : Outcome Effect (List ℕ)). replying (writtenOut request (lent s response′ block′) d) .told) e ∙ f, ap (λ (d : Outcome Effect (List ℕ)). d .after) e)
 
     fers-refused : anyApplies fersTests ≡ true → Does image marks (withBuffers call response′ block′) s (Replying (Refused (numberOf fersTests)) []) (s .cells)
     fers-refused y =
@@ -151,7 +151,7 @@ form image marks i cells Restart s q a = absurd a
 free-erased : (image marks : List ℕ) (i k mask : ℕ) (s : State) → keyHeld s ≡ false → keyHeld (eraseOf image marks i k mask s .after) ≡ false
 unfolding eraseOf
 free-erased image marks i k mask s h =
-    first-elim (λ (o : Outcome Answer State). keyHeld (o .after) ≡ false) (refusing unburned s) (eraseTests image marks i s) (onCells s (ranOf image i (runOn image (s .cells) marks i k mask)))
+    first-elim (λ (o : Outcome Answer State). keyHeld (o .after) ≡ false) (refusing unburned s) (eraseTests image marks i s) (burning image marks i k mask s)
     (λ n _. h) (λ none. h)
 
 pub free-after : (image marks : List ℕ) (i : ℕ) (call : Call) (s : State) → Attempt image marks i call s → keyHeld s ≡ false → keyHeld (after image marks call s) ≡ false

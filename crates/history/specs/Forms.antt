@@ -10,7 +10,7 @@ use lib.ListN.{length}
 use borrow.Author.Tests.{not-false, leb-false}
 use Rattle.laws.specs.Tests.{decided}
 use Rattle.laws.specs.Refusals.{firstOf, Applies, anyApplies, numberOf, any-refuses, none-accepts, number-applies, not-applies, applies-least}
-use Rattle.context.specs.State.{State, state, Outcome, refusing, onCells}
+use Rattle.context.specs.State.{State, state, Outcome, refusing}
 use Rattle.map.specs.Map.{headerOf, entryOf, zeroizable, mapGood}
 use Rattle.drive.specs.Drive.{Whole as WholeDrive, wholeArrays}
 use Rattle.cache.specs.Cache.{emptied}
@@ -20,7 +20,7 @@ use Rattle.burns.specs.declared.End.the-variants.{Stopped, Cut as CutEnd}
 use Rattle.burns.specs.Run.{Tally, Ran}
 use Rattle.erasure.specs.declared.Answer.{Answer}
 use Rattle.erasure.specs.declared.Answer.the-variants.{Refused as RefusedErasure}
-use Rattle.erasure.specs.Erasure.{runOn, answerBy, ranOf, unburned, eraseTests, eraseOf}
+use Rattle.erasure.specs.Erasure.{runOn, answerBy, ranOf, unburned, eraseTests, burning, eraseOf}
 use Rattle.erasure.specs.Cuts.{past-order, whole-by}
 use Rattle.history.specs.Calls.{keyHeld, Call, Direct, Erase, EraseCut, Mailbox, Restart, Told, Erasing, told, refusal, after}
 use Rattle.history.specs.Demand3.{Uncut, withBuffers, SameLengths}
@@ -104,14 +104,10 @@ module _ (image marks : List ℕ) (i : ℕ) (cells : List ℕ) where
     abbrev erasing : State → Outcome Answer State
     erasing s = eraseOf image marks i k mask s
 
-    -- what it does where no test applies
-    abbrev running : State → Outcome Answer State
-    running s = onCells s (ranOf image i (runFrom k mask s))
-
     startTests : List (Bool × ℕ)
     startTests = eraseTests image marks i (quiet cells)
 
-    by-tests : (s : State) → Quiet cells s → erasing s ≡ firstOf (refusing unburned s) startTests (running s)
+    by-tests : (s : State) → Quiet cells s → erasing s ≡ firstOf (refusing unburned s) startTests (burning image marks i k mask s)
     unfolding eraseOf startTests
     by-tests s q = rw (arrays-same image marks cells s q, held-same cells s q)
 
@@ -128,14 +124,14 @@ module _ (image marks : List ℕ) (i : ℕ) (cells : List ℕ) where
         let applies = number-applies startTests y in
         refuses (Erasing (RefusedErasure n 0)) (applies-least 1 startTests refl n applies) (λ e. not-applies 15 startTests refl (subst (λ (m : ℕ). Applies m startTests) e applies))
         (λ s q response block l.
-        let e : erasing s ≡ refusing unburned s n = by-tests s q ∙ any-refuses (refusing unburned s) (running s) startTests y in
+        let e : erasing s ≡ refusing unburned s n = by-tests s q ∙ any-refuses (refusing unburned s) (burning image marks i k mask s) startTests y in
         (is s response block .0 ∙ ap (λ (o : Outcome Answer State). Erasing (o .told)) e, is s response block .1 ∙ ap (λ (o : Outcome Answer State). o .after .cells) e)))
         (λ (o : anyApplies startTests ≡ false).
         let none = none-accepts (λ n. n) 0 startTests o .none in
         let ready : Ready = record { good = not-false _ (none 0); arrays = not-false _ (none 1); partition = leb-false _ _ (none 2); may = not-false _ (none 3) } in
         let did : (s : State) → Quiet cells s → DoesAll image marks call s (Erasing (ranOf image i (runFrom k mask s) .told)) (runFrom k mask s .tally .cells)
         = λ s q response block l.
-        (let e : erasing s ≡ running s = by-tests s q ∙ none-accepts (refusing unburned s) (running s) startTests o .is in
+        (let e : erasing s ≡ burning image marks i k mask s = by-tests s q ∙ none-accepts (refusing unburned s) (burning image marks i k mask s) startTests o .is in
         (is s response block .0 ∙ ap (λ (o : Outcome Answer State). Erasing (o .told)) e, is s response block .1 ∙ ap (λ (o : Outcome Answer State). o .after .cells) e)) in
         runs k mask Erasing ready (λ t. refl) (λ s q u. uncut ready s q (as-lent image marks call s (did s q) .0) u) did)
         (decided (anyApplies startTests))

@@ -10,7 +10,7 @@ use lib.ListN.{length}
 use borrow.Author.Tests.{not-false, leb-false}
 use Rattle.laws.specs.Tests.{ordered, not-first, cond-keeps}
 use Rattle.laws.specs.Refusals.{testAt, first-elim}
-use Rattle.context.specs.State.{State, withCells, withContext, Outcome, refusing, onCells}
+use Rattle.context.specs.State.{State, withCells, withContext, Outcome, refusing}
 use Rattle.map.specs.Map.{headerOf, entryOf, endOf, slot, mapGood}
 use Rattle.map.specs.Laws.{map-order}
 use Rattle.fuse.specs.Fuse.{burnWord}
@@ -34,7 +34,7 @@ use Rattle.codec.specs.declared.Command.{Command as Command′}
 use Rattle.codec.specs.declared.Command.the-variants.{Clkc, Klod, Kunl, Fers, Fsta, Unknown}
 use Rattle.codec.specs.Fields.{commandOf, known}
 use Rattle.erasure.specs.declared.Answer.{Answer as Erasure}
-use Rattle.erasure.specs.Erasure.{eraseTests, never, runOn, ranOf, unburned, eraseOf, uncutOf, isCut}
+use Rattle.erasure.specs.Erasure.{eraseTests, never, runOn, unburned, burning, eraseOf, uncutOf, isCut}
 use Rattle.erasure.specs.Parts.{Apart, run-apart}
 use Rattle.erasure.specs.Cuts.{whole-by}
 use Rattle.mailbox.specs.declared.Effect.{Effect}
@@ -112,7 +112,7 @@ module _ (image marks : List ℕ) (s : State) (safe : Safe image s) where
   erase-safe : (i k mask : ℕ) → Safe image (eraseOf image marks i k mask s .after)
   unfolding eraseOf
   erase-safe i k mask =
-      first-elim (λ (o : Outcome Erasure State). Safe image (o .after)) (refusing unburned s) (eraseTests image marks i s) (onCells s (ranOf image i (runOn image (s .cells) marks i k mask)))
+      first-elim (λ (o : Outcome Erasure State). Safe image (o .after)) (refusing unburned s) (eraseTests image marks i s) (burning image marks i k mask s)
       (λ n _. safe)
       (λ none. run-safe i k mask (not-false _ (none 0)) (not-false _ (none 1)) (leb-false _ _ (none 2)) (none 4))
 

@@ -12,7 +12,7 @@ use lib.Dec.{eqb}
 use borrow.Author.Tests.{ne-eqb, not-false, leb-false}
 use Rattle.laws.specs.Tests.{cond-keeps, lt-or-le}
 use Rattle.laws.specs.Refusals.{first-elim, testAt, Applies, not-applies}
-use Rattle.context.specs.State.{State, withCells, Outcome, outcome, refusing, onCells}
+use Rattle.context.specs.State.{State, withCells, Outcome, outcome, refusing}
 use Rattle.map.specs.Map.{headerOf, entryOf, endOf, software, zeroizable, mapGood}
 use Rattle.map.specs.Laws.{map-entry}
 use Rattle.fuse.specs.Fuse.{short, free, allOnes, burnWord}
@@ -32,7 +32,7 @@ use Rattle.direct.specs.declared.Answer.the-variants.{Word, Done as Burned, Wit
 use Rattle.direct.specs.Direct.{cellOf, directTests, carriedOut, answerOf, directBy, directOf}
 use Rattle.direct.specs.Laws.{direct-at}
 use Rattle.erasure.specs.declared.Answer.{Answer}
-use Rattle.erasure.specs.Erasure.{eraseTests, never, runOn, answerBy, ranOf, unburned, eraseOf, isCut}
+use Rattle.erasure.specs.Erasure.{eraseTests, never, runOn, answerBy, unburned, burning, eraseOf, isCut}
 use Rattle.erasure.specs.Laws.{part-long}
 use Rattle.erasure.specs.Parts.{array-at, run-part, run-outside, run-length}
 use Rattle.erasure.specs.Cuts.{uncut-judged, whole-by}
@@ -103,7 +103,7 @@ module _ (image marks : List ℕ) (s : State) where
   erase-stays : (i k mask : ℕ) → ErasureStays (eraseOf image marks i k mask s)
   unfolding eraseOf
   erase-stays i k mask =
-      first-elim ErasureStays (refusing unburned s) (eraseTests image marks i s) (onCells s (ranOf image i (runOn image (s .cells) marks i k mask)))
+      first-elim ErasureStays (refusing unburned s) (eraseTests image marks i s) (burning image marks i k mask s)
       (λ n _ l o. (refl, refl))
       (λ none l o. absurd (late i (runOn image (s .cells) marks i k mask .tally) (runOn image (s .cells) marks i k mask .end) l o))
 
@@ -244,7 +244,7 @@ module _ (image marks : List ℕ) (s : State) where
   unfolding eraseOf
   erase-15 i k mask =
       let tests = eraseTests image marks i s in
-      first-elim (Erasure15 i) (refusing unburned s) tests (onCells s (ranOf image i (runOn image (s .cells) marks i k mask)))
+      first-elim (Erasure15 i) (refusing unburned s) tests (burning image marks i k mask s)
       (λ n a z. absurd (not-applies 15 tests refl (subst (λ (m : ℕ). Applies m tests) z a)))
       (λ none. run-15 i k mask (not-false _ (none 0)) (not-false _ (none 1)) (leb-false _ _ (none 2)) (not-false _ (none 3)) (runOn image (s .cells) marks i k mask .end) refl)
 

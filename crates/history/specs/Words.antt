@@ -52,9 +52,9 @@ module _ (image : List ℕ) (good : mapGood image ≡ true) (i : ℕ) (l : i < h
   words = order (software x) (x .n)
 
   -- the map's word there, by the cells that are left
-  word-past : (a : ℕ) → a < x .n → wordAt image (x .first + a) ≡ wordBy (software x) 4 (x .n - a) i (x .first + a)
+  word-from : (a : ℕ) → a < x .n → wordAt image (x .first + a) ≡ wordBy (software x) 4 (x .n - a) i (x .first + a)
   unfolding wordIn
-  word-past a m =
+  word-from a m =
       let left : endOf x - (x .first + a) ≡ x .n - a = omega arith in
       word-of image good i (x .first + a) l (holds-at x (x .first + a) (omega arith) (omega arith)) ∙ rw (z, left)
 
@@ -66,7 +66,7 @@ module _ (image : List ℕ) (good : mapGood image ≡ true) (i : ℕ) (l : i < h
   first-known j e =
       let rules = map-entry image good i l in
       let two : x .n - (x .n - 2) ≡ 2 = omega (arith, rules .n-least) in
-      rw (first-word (software x) (x .n) j (pairFrom 0) e, eq-eqb _ _ e) (word-past (x .n - 2) (omega (arith, rules .n-least)) ∙ rw two)
+      rw (first-word (software x) (x .n) j (pairFrom 0) e, eq-eqb _ _ e) (word-from (x .n - 2) (omega (arith, rules .n-least)) ∙ rw two)
 
   later-known : (j : ℕ) → 1 ≤ j → j < length words → Known j (getD words j (pairFrom 0))
   later-known j p m =
@@ -76,13 +76,13 @@ module _ (image : List ℕ) (good : mapGood image ≡ true) (i : ℕ) (l : i < h
       let count = count-cells (software x) (x .n) s in
       let last : eqb (j + 1) (length words) ≡ eqb (j - 1) (x .n - 4) = same-test (j + 1) (length words) (j - 1) (x .n - 4) (λ e. omega arith) (λ e. omega (arith, rules .n-least)) in
       rw (cell-word (software x) (x .n) j (pairFrom 0) p m s, ne-eqb j 0 (λ e. omega arith), last)
-      (word-past (j - 1) (omega (arith, rules .n-least)) ∙ rw s (cell-at i (x .first + (j - 1)) (j - 1) (x .n) (rules .n-least) (omega arith))))
+      (word-from (j - 1) (omega (arith, rules .n-least)) ∙ rw s (cell-at i (x .first + (j - 1)) (j - 1) (x .n) (rules .n-least) (omega arith))))
       (λ (s : software x ≡ false).
       let count = count-pairs (software x) (x .n) s in
       let last : eqb (j + 1) (length words) ≡ eqb (2 * (j - 1)) (x .n - 4) = same-test (j + 1) (length words) (2 * (j - 1)) (x .n - 4)
       (λ e. omega (arith, rules .n-even)) (λ e. omega (arith, rules .n-least)) in
       rw (pair-word (software x) (x .n) j (pairFrom 0) p m s (rules .n-even), ne-eqb j 0 (λ e. omega arith), last)
-      (word-past (2 * (j - 1)) (omega (arith, rules .n-least)) ∙ rw s (pair-at i (x .first + 2 * (j - 1)) (2 * (j - 1)) (x .n) (rules .n-least) (omega arith) (omega (arith, rules .first-even)))))
+      (word-from (2 * (j - 1)) (omega (arith, rules .n-least)) ∙ rw s (pair-at i (x .first + 2 * (j - 1)) (2 * (j - 1)) (x .n) (rules .n-least) (omega arith) (omega (arith, rules .first-even)))))
       (decided (software x))
     where
       same-test : (a b c d : ℕ) → (a ≡ b → c ≡ d) → (c ≡ d → a ≡ b) → eqb a b ≡ eqb c d

@@ -15,13 +15,13 @@ decided true = inl refl
 decided false = inr refl
 
 -- whether something holds that can be decided, as a test; where it passes, it holds
-abbrev pub holds : {A : Type 0} → Dec A → Bool
-holds (yes a) = true
-holds (no o) = false
+abbrev pub isYes : {A : Type 0} → Dec A → Bool
+isYes (yes a) = true
+isYes (no o) = false
 
-pub holds-yes : {A : Type 0} (d : Dec A) → holds d ≡ true → A
-holds-yes (yes a) e = a
-holds-yes (no o) e = absurd (false≢true e)
+pub is-yes : {A : Type 0} (d : Dec A) → isYes d ≡ true → A
+is-yes (yes a) e = a
+is-yes (no o) e = absurd (false≢true e)
 
 -- a test that cannot pass fails
 pub not-yes : (b : Bool) → (b ≡ true → ⊥) → b ≡ false

@@ -3,7 +3,7 @@ use Prim.Native.Nat.{ℕ, _≤_}
 use mathlib.Core.Path.{_≡_, refl, sym, ap, subst, _∙_}
 use mathlib.Core.Logic.{_⊎_, inl, inr, ⊎-elim}
 use mathlib.Core.Bool.{Bool, true, false, not, false≢true}
-use mathlib.Core.List.{List, [], _∷_, _++_}
+use mathlib.Core.List.{List, [], _++_}
 use lib.Dec.{eqb, ltb}
 use lib.ListN.{length}
 use borrow.Author.Tests.{ltb-false, leb-false, eqb-true, eq-eqb, ne-eqb, not-false}
@@ -30,8 +30,8 @@ use Rattle.codec.specs.Request.{requestTests}
 use Rattle.mailbox.specs.declared.Effect.{Effect}
 use Rattle.mailbox.specs.declared.Reply.the-variants.{Refused, Accepted}
 use Rattle.mailbox.specs.Mailbox.{effect, refused, loadOf, unloadOf, fersOf, partitionIn, accepted, loadTests, unloadTests}
-use Rattle.mailbox.specs.Mailbox.{loadEffect, unloadEffect, ownTests, ownDone, buffersBad, mailboxTests, doneOf, contextAfter, blockAfter}
-use Rattle.mailbox.specs.Mailbox.{Lent, lent, carriedOut, mailboxOf, loads, Fits}
+use Rattle.mailbox.specs.Mailbox.{loadEffect, unloadEffect, ownTests, ownDone, buffersBad, laterTests, mailboxTests, doneOf, contextAfter, blockAfter}
+use Rattle.mailbox.specs.Mailbox.{Lent, lent, writtenOut, mailboxOf, loads, Fits}
 
 -- ---- what KLOD and KUNL do: which of their tests gives the number, by the test's place, or the effect at the values that were read
 
@@ -101,27 +101,26 @@ module _ (image marks : List ℕ) (code : ℕ) (request : List ℕ) (room block 
   abbrev refuse : ℕ → Outcome Effect (List ℕ)
   refuse = refusing refused (s .cells)
 
-  abbrev done : Outcome Effect (List ℕ)
-  done = accepted (commandOf code) image marks request s
+  abbrev callDone : Outcome Effect (List ℕ)
+  callDone = accepted (commandOf code) image marks request s
 
-  -- the tests after the drive's
-  abbrev laterTests : List (Bool × ℕ)
-  laterTests = (buffersBad room block, 2) ∷ (requestTests (commandOf code) code request ++ ownTests (commandOf code) image request s)
+  abbrev later : List (Bool × ℕ)
+  later = laterTests (commandOf code) image code request (buffersBad room block) s
 
   pub judged-drive : (n : ℕ) → NotReady n ≡ checkOf image (s .cells) marks → outcome (refused n) (s .cells) ≡ doneOf image marks code request room block s
   unfolding doneOf
-  judged-drive n e = sym (check-refused refuse laterTests done image (s .cells) marks n e)
+  judged-drive n e = sym (check-refused refuse later callDone image (s .cells) marks n e)
 
   module _ {header : Header} (e : Ready header ≡ checkOf image (s .cells) marks) where
-    past-drive : doneOf image marks code request room block s ≡ firstOf refuse laterTests done
+    past-drive : doneOf image marks code request room block s ≡ firstOf refuse later callDone
     unfolding doneOf
-    past-drive = check-passed refuse laterTests done image (s .cells) marks header e
+    past-drive = check-passed refuse later callDone image (s .cells) marks header e
 
     pub judged-buffers : buffersBad room block ≡ true → outcome (refused 2) (s .cells) ≡ doneOf image marks code request room block s
     judged-buffers b = sym (past-drive ∙ simp b)
 
     module _ (b : buffersBad room block ≡ false) where
-      past-buffers : doneOf image marks code request room block s ≡ firstOf refuse (requestTests (commandOf code) code request ++ ownTests (commandOf code) image request s) done
+      past-buffers : doneOf image marks code request room block s ≡ firstOf refuse (requestTests (commandOf code) code request ++ ownTests (commandOf code) image request s) callDone
       past-buffers = past-drive ∙ simp b
 
       module _ (command : Command) (named : command ≡ commandOf code) where
@@ -143,7 +142,7 @@ pub record Numbered (tests : List (Bool × ℕ)) : Type 0 where
   pub not-15 : lacks 15 tests ≡ true
 
 pub numbered-by : (command : Command) (image marks : List ℕ) (code : ℕ) (request : List ℕ) (bad : Bool) (s : State)
-    → Numbered (driveTests image (s .cells) marks ++ ((bad, 2) ∷ (requestTests command code request ++ ownTests command image request s)))
+    → Numbered (driveTests image (s .cells) marks ++ laterTests command image code request bad s)
 unfolding requestTests
 numbered-by Clkc image marks code request bad s = record { ascend = refl; not-0 = refl; not-15 = refl }
 numbered-by Klod image marks code request bad s = record { ascend = refl; not-0 = refl; not-15 = refl }
@@ -188,7 +187,7 @@ accepted-refuses command image marks request s k =
     (fers-or-plain command image marks request s k)
 
 still : (n : ℕ) → (n ≡ 0 → ⊥) → (cells request : List ℕ) (l : Lent)
-    → outcome (Refused n) (lent (withCells cells (l .state)) (l .response) (l .block)) ≡ carriedOut request l (outcome (refused n) cells)
+    → outcome (Refused n) (lent (withCells cells (l .state)) (l .response) (l .block)) ≡ writtenOut request l (outcome (refused n) cells)
 still n o cells request l = rw (ne-eqb n 0 o)
 
 -- the request has its command's length, and the buffers are long enough
@@ -199,18 +198,18 @@ pub record Carried (code : ℕ) (order : Order) (request response block : List �
 
 module _ (image marks : List ℕ) (code : ℕ) (request : List ℕ) (l : Lent) {e : Effect} {cells : List ℕ}
     (d : outcome e cells ≡ doneOf image marks code request (length (l .response)) (length (l .block)) (l .state)) where
-  abbrev allTests : List (Bool × ℕ)
-  allTests = mailboxTests image marks code request (length (l .response)) (length (l .block)) (l .state)
+  abbrev callTests : List (Bool × ℕ)
+  callTests = mailboxTests image marks code request (length (l .response)) (length (l .block)) (l .state)
 
-  numbered : Numbered allTests
+  numbered : Numbered callTests
   numbered = numbered-by (commandOf code) image marks code request (buffersBad (length (l .response)) (length (l .block))) (l .state)
 
   pub carried : e .refusal ≡ 0 → Carried code (e .order) request (l .response) (l .block)
   unfolding doneOf requestTests
   carried z =
-      let told = accepted-tells (refusing refused (l .state .cells)) (λ (o : Outcome Effect (List ℕ)). not (eqb (o .told .refusal) 0)) allTests
+      let told = accepted-tells (refusing refused (l .state .cells)) (λ (o : Outcome Effect (List ℕ)). not (eqb (o .told .refusal) 0)) callTests
       (accepted (commandOf code) image marks request (l .state))
-      (λ n a. ap not (ne-eqb n 0 (λ q. not-applies 0 allTests (numbered .not-0) (subst (λ (m : ℕ). Applies m allTests) q a))))
+      (λ n a. ap not (ne-eqb n 0 (λ q. not-applies 0 callTests (numbered .not-0) (subst (λ (m : ℕ). Applies m callTests) q a))))
       (ap (λ (o : Outcome Effect (List ℕ)). not (eqb (o .told .refusal) 0)) (sym d) ∙ ap not (eq-eqb _ _ z)) in
       let is : e .order ≡ accepted (commandOf code) image marks request (l .state) .told .order = ap (λ (o : Outcome Effect (List ℕ)). o .told .order) (d ∙ told .is) in
       let buffers = neither (not (eqb (length (l .block)) 128)) (ltb (length (l .response)) leastRoom) (told .none 2) in
@@ -233,17 +232,17 @@ module _ (image marks : List ℕ) (code : ℕ) (request : List ℕ) (l : Lent) {
   unfolding doneOf requestTests
   is-refused =
       subst (λ (x : Outcome Effect (List ℕ)). OnlyRefused (x .told)) (sym d)
-      (first-elim (λ (x : Outcome Effect (List ℕ)). OnlyRefused (x .told)) (refusing refused (l .state .cells)) allTests (accepted (commandOf code) image marks request (l .state))
+      (first-elim (λ (x : Outcome Effect (List ℕ)). OnlyRefused (x .told)) (refusing refused (l .state .cells)) callTests (accepted (commandOf code) image marks request (l .state))
       (λ n _ _. refl)
       (λ none. accepted-refuses (commandOf code) image marks request (l .state) (not-false _ (none 3))))
 
   -- a refusal leaves everything as it was, but for the cells that FERS has burned before 15
   pub refused-left : (e .refusal ≡ 0 → ⊥) → outcome (Refused (e .refusal)) (lent (withCells cells (l .state)) (l .response) (l .block)) ≡ mailboxOf image marks code request l
-  refused-left o = still (e .refusal) o cells request l ∙ ap (λ (x : Effect). carriedOut request l (outcome x cells)) (sym (is-refused o)) ∙ ap (carriedOut request l) d
+  refused-left o = still (e .refusal) o cells request l ∙ ap (λ (x : Effect). writtenOut request l (outcome x cells)) (sym (is-refused o)) ∙ ap (writtenOut request l) d
 
   -- else each part is as the effect leaves it
   pub carried-left : e .refusal ≡ 0 → {context response block : List ℕ} {n : ℕ} → context ≡ contextAfter e (l .state .context)
       → block ≡ blockAfter (e .order) (e .tag) request (l .block)
       → (n ≡ lengthOf (responseFields (e .command) (e .numbers))) × (response ≡ responseIn (e .command) (e .numbers) (l .response))
       → outcome (Accepted n (e .order)) (lent (withContext context (withCells cells (l .state))) response block) ≡ mailboxOf image marks code request l
-  carried-left z p q r = rw (p, q, r .0, r .1) (sym (simp (eq-eqb _ _ z)) ∙ ap (carriedOut request l) d)
+  carried-left z p q r = rw (p, q, r .0, r .1) (sym (simp (eq-eqb _ _ z)) ∙ ap (writtenOut request l) d)

@@ -119,14 +119,14 @@ ownDone command image marks request s = firstOf (refusing refused (s .cells)) (o
 abbrev pub buffersBad : (room block : ℕ) → Bool
 buffersBad room block = not (eqb block 128) || ltb room leastRoom
 
--- all refusals of a call: 1 and 2 for the drive, 2 for the buffers, 3 to 6 for the request, 7 to 14 for the command; FERS's 15 is its
--- run's, above
+-- the refusals of a call after the drive's own: 2 for the buffers, 3 to 6 for the request, 7 to 14 for the command
+abbrev pub laterTests : Command → (image : List ℕ) (code : ℕ) (request : List ℕ) (bad : Bool) → State → List (Bool × ℕ)
+laterTests command image code request bad s = (bad, 2) ∷ (requestTests command code request ++ ownTests command image request s)
+
+-- all refusals of a call: 1 and 2 for the drive, then those; FERS's 15 is its run's, above
 abbrev pub mailboxTests : (image marks : List ℕ) (code : ℕ) (request : List ℕ) (room block : ℕ) → State → List (Bool × ℕ)
 mailboxTests image marks code request room block s =
-    driveTests image (s .cells) marks
-    ++ ((buffersBad room block, 2)
-    ∷ (requestTests (commandOf code) code request
-    ++ ownTests (commandOf code) image request s))
+    driveTests image (s .cells) marks ++ laterTests (commandOf code) image code request (buffersBad room block) s
 
 -- "the lowest that applies is given, and none is given otherwise"
 unfoldable pub doneOf : (image marks : List ℕ) (code : ℕ) (request : List ℕ) (room block : ℕ) → State → Outcome Effect (List ℕ)
@@ -136,15 +136,15 @@ doneOf image marks code request room block s =
 -- ---- what an effect leaves
 
 -- what an order makes of the context: "CLKC empties it", a load takes its place, an unload frees it
-abbrev pub ordered : Order → (tag : ℕ) (context : List ℕ) → List ℕ
-ordered Nothing tag context = context
-ordered (Clear timeout) tag context = emptied context
-ordered (Load place timeout) tag context = loaded place tag context
-ordered (Unload place timeout) tag context = freed place context
+abbrev pub contextBy : Order → (tag : ℕ) (context : List ℕ) → List ℕ
+contextBy Nothing tag context = context
+contextBy (Clear timeout) tag context = emptied context
+contextBy (Load place timeout) tag context = loaded place tag context
+contextBy (Unload place timeout) tag context = freed place context
 
 -- the context
 abbrev pub contextAfter : Effect → (context : List ℕ) → List ℕ
-contextAfter e context = ordered (e .order) (e .tag) context
+contextAfter e context = contextBy (e .order) (e .tag) context
 
 -- the state: the cells as they were left, and the context
 abbrev pub stateAfter : Outcome Effect (List ℕ) → State → State
@@ -179,8 +179,8 @@ abbrev pub lent : State → (response block : List ℕ) → Lent
 lent state response block = record { state = state; response = response; block = block }
 
 -- what was done, as what the call tells and leaves
-abbrev pub carriedOut : (request : List ℕ) → Lent → Outcome Effect (List ℕ) → Outcome Reply Lent
-carriedOut request l done =
+abbrev pub writtenOut : (request : List ℕ) → Lent → Outcome Effect (List ℕ) → Outcome Reply Lent
+writtenOut request l done =
     let e : Effect = done .told in
     outcome (replyOf e)
     (lent (stateAfter done (l .state)) (responseAfter e (l .response)) (blockAfter (e .order) (e .tag) request (l .block)))
@@ -188,7 +188,7 @@ carriedOut request l done =
 -- a call of the mailbox
 abbrev pub mailboxOf : (image marks : List ℕ) (code : ℕ) (request : List ℕ) → Lent → Outcome Reply Lent
 mailboxOf image marks code request l =
-    carriedOut request l (doneOf image marks code request (length (l .response)) (length (l .block)) (l .state))
+    writtenOut request l (doneOf image marks code request (length (l .response)) (length (l .block)) (l .state))
 
 -- ---- below the entry point
 

@@ -41,18 +41,18 @@ hek-some slot i e n = rw (e, n)
 
 module _ (input : List ℕ) where
   -- "in this order": the first that applies is given, and none is given otherwise
-  pub reading-first : GivenFirst Refused (inputTests input) Drive (readingOf input)
+  pub input-first : GivenFirst Refused (inputTests input) Drive (readingOf input)
   unfolding readingOf
-  reading-first = given-first Refused Drive (inputTests input)
+  input-first = given-first Refused Drive (inputTests input)
 
   -- which of the tests gives the number, by the test's place, and that none does
-  pub reading-at : (k : ℕ) → Past k (inputTests input) → testAt (inputTests input) k ≡ true → Refused (refusalAt (inputTests input) k) ≡ readingOf input
+  pub input-at : (k : ℕ) → Past k (inputTests input) → testAt (inputTests input) k ≡ true → Refused (refusalAt (inputTests input) k) ≡ readingOf input
   unfolding readingOf
-  reading-at k = refused-at Refused Drive k (inputTests input)
+  input-at k = refused-at Refused Drive k (inputTests input)
 
-  pub reading-past : Past 5 (inputTests input) → Drive ≡ readingOf input
+  pub input-past : Past 5 (inputTests input) → Drive ≡ readingOf input
   unfolding readingOf
-  reading-past = past-all Refused Drive (inputTests input)
+  input-past = past-all Refused Drive (inputTests input)
 
   -- the image as the code lends it, at the map's length that was read
   pub image-is : {len : ℕ} → len ≡ mapLength input → take (2 + len - 2) (drop 2 input) ≡ imageOf input

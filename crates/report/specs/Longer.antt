@@ -16,7 +16,7 @@ use Rattle.endian.specs.Endian.{u16At}
 use Rattle.map.specs.Laws.{map-header}
 use Rattle.map.specs.Map.{mapGood}
 use Rattle.report.specs.Status.{mapLength, imageOf, cellCount, refusedLine, statusOf}
-use Rattle.report.specs.Laws.{reading-at}
+use Rattle.report.specs.Laws.{input-at}
 
 two-cut : (j : ℕ) (s : List ℕ) → drop 2 (take (suc (suc j)) s) ≡ take j (drop 2 s)
 two-cut j [] = sym (take-nil j)
@@ -34,7 +34,7 @@ module _ (input : List ℕ) (l : 16642 < length input) where
       let len = mapLength input in
       let two = le-ltb (length input) 2 (omega arith) in
       ⊎-elim
-      (λ (a : ltb 256 len ≡ true). rw (← reading-at input 1 (two, tt) a, a))
+      (λ (a : ltb 256 len ≡ true). rw (← input-at input 1 (two, tt) a, a))
       (λ (a : ltb 256 len ≡ false).
       let most : len ≤ 256 = ltb-false 256 len a in
       let whole = le-ltb (length input) (2 + len) (omega arith) in
@@ -42,8 +42,8 @@ module _ (input : List ℕ) (l : 16642 < length input) where
       (λ (g : mapGood (imageOf input) ≡ true).
       let cells : cellCount input ≤ 2048 = map-header (imageOf input) g .cells-most in
       let no = ne-eqb (length input) (2 + len + 8 * cellCount input) (λ q. omega arith) in
-      rw (← reading-at input 4 (two, (a, (whole, (ap not g, tt)))) (ap not no), a, g))
-      (λ (g : mapGood (imageOf input) ≡ false). rw (← reading-at input 3 (two, (a, (whole, tt))) (ap not g), a, g))
+      rw (← input-at input 4 (two, (a, (whole, (ap not g, tt)))) (ap not no), a, g))
+      (λ (g : mapGood (imageOf input) ≡ false). rw (← input-at input 3 (two, (a, (whole, tt))) (ap not g), a, g))
       (decided (mapGood (imageOf input))))
       (decided (ltb 256 len))
 

@@ -50,11 +50,13 @@ same-length-4 c = search needs
 
 returns-2 : tie.Need-returns-2
 returns-2 c =
-    let past = c .before .before .before .before .before .before .before .before .before .before .before in
+    let responded = c .before .before in
+    let blocked = responded .before .before .before .before .before in
+    let kept = blocked .before .before in
+    let past = kept .before .before in
     let done = past .before .before .before .before in
     carried-left _ _ _ _ (was done) (done .effect-of .ensures) (past .if1 .left)
-    (c .before .before .before .before .before .before .before .before .before .update-context .ensures)
-    (c .before .before .before .before .before .before .before .update-block .ensures) (c .before .before .write-response .ensures)
+    (kept .update-context .ensures) (blocked .update-block .ensures) (responded .write-response .ensures)
 
 pub call-spec : {M : Type 1} → statement M
 call-spec =

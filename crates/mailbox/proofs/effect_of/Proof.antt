@@ -65,9 +65,11 @@ same-length-3 c = search needs
 
 returns-3 : tie.Need-returns-3
 returns-3 c =
-    let a = c .before .before .before .before .before .before .before .before .before .before .args in
+    let told = c .before .before in
+    let checked = told .before .before in
+    let a = checked .before .before .before .before .before .before .args in
     ap (λ (e : Effect). outcome e (a .cells .now)) (c .refuse .ensures)
-    ∙ judged-drive _ _ _ _ _ _ (state (a .cells .now) (a .context .now)) _ (sym (c .before .before .number .given .1) ∙ c .before .before .before .before .check-drive .ensures)
+    ∙ judged-drive _ _ _ _ _ _ (state (a .cells .now) (a .context .now)) _ (sym (told .number .given .1) ∙ checked .check-drive .ensures)
 
 same-length-4 : tie.Need-same-length-4
 same-length-4 c = search needs

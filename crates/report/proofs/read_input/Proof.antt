@@ -9,12 +9,12 @@ use Rattle.laws.specs.Refusals.{Past}
 use Rattle.map.specs.Map.{mapGood, headerOf}
 use Rattle.map.specs.declared.Header.{Header}
 use Rattle.report.specs.Status.{imageOf, cellCount, inputTests}
-use Rattle.report.specs.Laws.{reading-at, reading-past, image-is}
+use Rattle.report.specs.Laws.{input-at, input-past, image-is}
 use Rattle.report.proofs.read_input.Statement.{statement}
 use Rattle.report.proofs.read_input.Tie as tie
 
 returns : tie.Need-returns
-returns c = reading-at _ 0 tt (lt-ltb _ _ (c .if1 .taken))
+returns c = input-at _ 0 tt (lt-ltb _ _ (c .if1 .taken))
 
 u16-at-requires : tie.Need-u16-at-requires
 u16-at-requires c κs = search needs
@@ -23,7 +23,7 @@ cast-len : tie.Need-cast-len
 cast-len c = search needs
 
 returns-2 : tie.Need-returns-2
-returns-2 c = reading-at _ 1 (le-ltb _ _ (c .before .before .if1 .left), tt) (lt-ltb _ _ (rw (c .before .u16-at .ensures) at (c .if2 .taken)))
+returns-2 c = input-at _ 1 (le-ltb _ _ (c .before .before .if1 .left), tt) (lt-ltb _ _ (rw (c .before .u16-at .ensures) at (c .if2 .taken)))
 
 add-end : tie.Need-add-end
 add-end c = search needs
@@ -31,7 +31,7 @@ add-end c = search needs
 returns-3 : tie.Need-returns-3
 returns-3 c =
     let len = c .before .before in
-    reading-at _ 2 (le-ltb _ _ (len .before .if1 .left), (le-ltb _ _ (rw (len .u16-at .ensures) at (c .before .if2 .left)), tt)) (lt-ltb _ _ (rw (len .u16-at .ensures) at (c .if3 .taken)))
+    input-at _ 2 (le-ltb _ _ (len .before .if1 .left), (le-ltb _ _ (rw (len .u16-at .ensures) at (c .before .if2 .left)), tt)) (lt-ltb _ _ (rw (len .u16-at .ensures) at (c .if3 .taken)))
 
 sub-image : tie.Need-sub-image
 sub-image c = search needs
@@ -55,7 +55,7 @@ returns-4 : tie.Need-returns-4
 returns-4 c =
     let three = c .before .before .before in
     let image = image-is _ (three .before .before .u16-at .ensures) in
-    reading-at _ 3 (lengths-past three 0 tt) (ap not (ap mapGood (sym image) ∙ sym (c .before .is-good .ensures)) ∙ c .if4 .taken)
+    input-at _ 3 (lengths-past three 0 tt) (ap not (ap mapGood (sym image) ∙ sym (c .before .is-good .ensures)) ∙ c .if4 .taken)
 
 read-header-requires : tie.Need-read-header-requires
 read-header-requires c κs = search needs
@@ -81,13 +81,13 @@ returns-5 : tie.Need-returns-5
 returns-5 c =
     let three = c .before .before .before .before .before .before in
     let j = judged (c .before) in
-    reading-past _ (lengths-past three 2 (j .1, (ap not (eq-eqb _ _ (rw (three .before .before .u16-at .ensures, j .0) at (c .if5 .taken))), tt)))
+    input-past _ (lengths-past three 2 (j .1, (ap not (eq-eqb _ _ (rw (three .before .before .u16-at .ensures, j .0) at (c .if5 .taken))), tt)))
 
 returns-6 : tie.Need-returns-6
 returns-6 c =
     let three = c .before .before .before .before .before .before in
     let j = judged (c .before) in
-    reading-at _ 4 (lengths-past three 1 (j .1, tt)) (ap not (ne-eqb _ _ (rw (three .before .before .u16-at .ensures, j .0) at (c .if5 .left))))
+    input-at _ 4 (lengths-past three 1 (j .1, tt)) (ap not (ne-eqb _ _ (rw (three .before .before .u16-at .ensures, j .0) at (c .if5 .left))))
 
 pub read-input-spec : {M : Type 1} → statement M
 read-input-spec =
