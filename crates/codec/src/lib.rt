@@ -3,7 +3,6 @@
 // `specs/Fields`, the refusals in `specs/Request`, the laws for callers in `specs/Laws`. It rests on
 // `chksum`, `endian` and `laws`.
 ghost use mathlib.Core.Path.{_≡_};
-ghost use mathlib.Core.List.{[], _∷_};
 ghost use Prim.Native.Nat.{_+_, _*_, _≤_, _<_};
 ghost use lib.ListN.{length, take, getD};
 ghost use Rattle.laws.specs.Put.{Put};
@@ -49,6 +48,9 @@ const TAG_HIGH: usize = 16;
 const MEK: usize = 20;
 
 const MEK_END: usize = 84;
+
+// Where a response's fields after chksum begin.
+const FIPS_STATUS: usize = 4;
 
 // The command that a code names.
 pub fn command_of(code: u32) -> Command
@@ -197,16 +199,6 @@ fn number_count(command: Command, numbers: Numbers) -> usize
     }
 }
 
-// Writes the fields that stand after chksum in every response, fips_status and reserved, both 0, and
-// answers the place past them.
-fn begin_response(out: &mut [u8]) -> usize
-    requires { ⌜ 12 ≤ length (now out) ⌝ }
-    ensures { λ r. ⌜ Put 4 (written (0 ∷ 0 ∷ [])) (now (out .entry)) (now (out .exit)) r ⌝ }
-{
-    let at = endian::put_u32(out, 4, 0);
-    endian::put_u32(out, at, 0)
-}
-
 // Number `k`.
 fn number_at(numbers: Numbers, k: usize) -> u32
     requires { ⌜ k < length (numbersIn numbers) ⌝ }
@@ -233,12 +225,14 @@ fn put_numbers(out: &mut [u8], at: usize, numbers: Numbers, count: usize) -> usi
     end
 }
 
-// Writes a command's response, and answers its length.
+// Writes a command's response, and answers its length: fips_status and reserved, both 0, the command's
+// own fields, then chksum.
 pub fn write_response(out: &mut [u8], command: Command, numbers: Numbers) -> u32
     requires { ⌜ leastRoom ≤ length (now out) ⌝ }
     ensures { λ r. ⌜ (r ≡ lengthOf (responseFields command numbers)) × (now (out .exit) ≡ responseIn command numbers (now (out .entry))) ⌝ }
 {
-    let at = begin_response(out);
+    let reserved = endian::put_u32(out, FIPS_STATUS, 0);
+    let at = endian::put_u32(out, reserved, 0);
     let end = put_numbers(out, at, numbers, number_count(command, numbers));
     chksum::close(out, end);
     end as u32

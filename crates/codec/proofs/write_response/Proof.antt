@@ -10,16 +10,26 @@ use borrow.Author.Needs.{needs}
 use Rattle.codec.proofs.write_response.Statement.{statement}
 use Rattle.codec.proofs.write_response.Tie as tie
 
-begin-response-requires : tie.Need-begin-response-requires
-begin-response-requires c κs = search needs
+put-u32-requires : tie.Need-put-u32-requires
+put-u32-requires c κs = search needs
+
+put-u32-requires-2 : tie.Need-put-u32-requires-2
+put-u32-requires-2 c κs = search needs
 
 number-count-requires : tie.Need-number-count-requires
 number-count-requires c κs = search needs
 
+-- where fips_status was written, and reserved
+abbrev reserved : tie.After-number-count → tie.After-put-u322
+reserved c = c .before .before .before .before
+
+abbrev status : tie.After-number-count → tie.After-put-u32
+status c = reserved c .before .before .before .before
+
 put-numbers-requires : tie.Need-put-numbers-requires
 put-numbers-requires c κs =
-    let start = c .before .before .before .before .before .before .before in
-    let begun = c .before .before .before .before .begin-response .ensures in
+    let start = status c .before .before .before in
+    let begun = then (status c .put-u32 .ensures) (reserved c .put-u322 .ensures) in
     let fits = fits-least (start .args .command) (start .args .numbers) in
     (omega (arith, enough (start .args .command) (start .args .numbers), c .number-count .ensures), omega (arith, fits, c .number-count .ensures, begun .is-next, begun .same, start .pre))
 
@@ -30,13 +40,13 @@ cast-result : tie.Need-cast-result
 cast-result c =
     let put = c .before .before .before .before .before .before in
     let count = put .before in
-    let begun = count .before .before .before .before in
-    let a = begun .before .before .before .args in
+    let a = status count .before .before .before .args in
     omega (
       arith,
       put .put-numbers .ensures .is-next,
       written-most (numbersIn (a .numbers)) (count .number-count .result),
-      begun .begin-response .ensures .is-next,
+      status count .put-u32 .ensures .is-next,
+      reserved count .put-u322 .ensures .is-next,
       fits-least (a .command) (a .numbers),
       count .number-count .ensures,
     )
@@ -48,17 +58,18 @@ returns : tie.Need-returns
 returns c =
     let put = c .before .before .before .before .before .before in
     let count = put .before in
-    let begun = count .before .before .before .before in
-    let a = begun .before .before .before .args in
+    let a = status count .before .before .before .args in
+    let begun = then (status count .put-u32 .ensures) (reserved count .put-u322 .ensures) in
     responded (a .command) (a .numbers)
-    (then (begun .begin-response .ensures) (retext (ap (λ (n : ℕ). written (take n (numbersIn (a .numbers)))) (count .number-count .ensures)) (put .put-numbers .ensures)))
+    (then begun (retext (ap (λ (n : ℕ). written (take n (numbersIn (a .numbers)))) (count .number-count .ensures)) (put .put-numbers .ensures)))
     (c .before .before .close .ensures)
 
 pub write-response-spec : {M : Type 1} → statement M
 write-response-spec =
     tie.close
     (tie.spec
-    begin-response-requires
+    put-u32-requires
+    put-u32-requires-2
     number-count-requires
     put-numbers-requires
     close-requires
