@@ -151,7 +151,8 @@ module _ (marks : List ℕ) (bound mask j x : ℕ) where
   abbrev Filled : Ran → Type 0
   Filled r = r .end ≡ Whole → getD (r .tally .cells) j 0 ≡ full (getD marks j 0) x
 
-  burns-fill : (k : ℕ) (words : List Word) (t : Tally) → j < length (t .cells) → Between (getD marks j 0) x (getD (t .cells) j 0) → Reached j words → Filled (burnsOf marks bound mask k words t)
+  burns-fill : (k : ℕ) (words : List Word) (t : Tally) → j < length (t .cells) → Between (getD marks j 0) x (getD (t .cells) j 0) → Reached j words
+      → Filled (burnsOf marks bound mask k words t)
   unfolding burnsOf
   burns-fill zero words t l b (here i) = λ e. absurd (cut-not-whole e)
   burns-fill zero words t l b (later r) = λ e. absurd (cut-not-whole e)

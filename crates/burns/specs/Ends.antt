@@ -33,7 +33,8 @@ module _ (marks : List ℕ) (bound : ℕ) where
   either P true x y x′ y′ p q = p
   either P false x y x′ y′ p q = q
 
-  burns-late : (mask k never : ℕ) (words : List Word) (t : Tally) → length words ≤ never → uncut never words t .tally .burns ≤ t .burns + k → burnsOf marks bound mask k words t ≡ uncut never words t
+  burns-late : (mask k never : ℕ) (words : List Word) (t : Tally) → length words ≤ never → uncut never words t .tally .burns ≤ t .burns + k
+      → burnsOf marks bound mask k words t ≡ uncut never words t
   unfolding burnsOf
   burns-late mask k never [] t l = λ late. refl
   burns-late mask zero never (word ∷ words) t l = λ late. absurd (more never l late)

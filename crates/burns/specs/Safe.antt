@@ -31,7 +31,8 @@ unfolding goesOn
 on-counted bound c = refl
 
 -- it hangs on the last two cells, the indicator
-on-same : (bound n : ℕ) (c d : List ℕ) → 2 ≤ n → n % 2 ≡ 0 → length c ≡ n → length d ≡ n → ((j : ℕ) → n - 2 ≤ j → j < n → getD c j 0 ≡ getD d j 0) → goesOn bound c ≡ goesOn bound d
+on-same : (bound n : ℕ) (c d : List ℕ) → 2 ≤ n → n % 2 ≡ 0 → length c ≡ n → length d ≡ n → ((j : ℕ) → n - 2 ≤ j → j < n → getD c j 0 ≡ getD d j 0)
+    → goesOn bound c ≡ goesOn bound d
 unfolding goesOn counted shortAt
 on-same bound n c d two even p q f =
     let low = f (2 * (n / 2 - 1)) (omega arith) (omega arith) in

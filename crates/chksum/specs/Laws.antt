@@ -16,7 +16,8 @@ pub sum-step : (bytes : List ℕ) (i : ℕ) → i < length bytes → sumBytes (d
 sum-step bytes i h = rw (add-one, drop-cons bytes i 0)
 
 -- the chksum, written in front
-pub closes : (n : ℕ) {chksum next : ℕ} {before after : List ℕ} → chksum ≡ minus (0 + sumBytes (drop 4 (take n before))) → Put 0 (bytes4 chksum) before after next → after ≡ closed n before
+pub closes : (n : ℕ) {chksum next : ℕ} {before after : List ℕ} → chksum ≡ minus (0 + sumBytes (drop 4 (take n before)))
+    → Put 0 (bytes4 chksum) before after next → after ≡ closed n before
 closes n {before = before} q w = w .bytes ∙ ap (λ (v : ℕ). putAt 0 (bytes4 v) before) (q ∙ ap minus (zero-add (sumBytes (drop 4 (take n before)))))
 
 -- the bytes after chksum are written, and then the chksum: a response, and past it the bytes as they were

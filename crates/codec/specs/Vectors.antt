@@ -16,7 +16,8 @@ request-bytes = refl
 response-bytes : map (λ command. lengthOf (responseFields command noNumbers)) (Clkc ∷ Klod ∷ Kunl ∷ Fers ∷ Fsta ∷ []) ≡ 12 ∷ 16 ∷ 12 ∷ 20 ∷ 20 ∷ []
 response-bytes = refl
 
-request-places : map (λ field. placeOf field (requestFields Klod)) (Cmd-timeout ∷ Tag-low ∷ Tag-high ∷ Mek ∷ []) ++ (placeOf Partition (requestFields Fers) ∷ []) ≡ 8 ∷ 12 ∷ 16 ∷ 20 ∷ 8 ∷ []
+request-places : map (λ field. placeOf field (requestFields Klod)) (Cmd-timeout ∷ Tag-low ∷ Tag-high ∷ Mek ∷ []) ++ (placeOf Partition (requestFields Fers) ∷ [])
+    ≡ 8 ∷ 12 ∷ 16 ∷ 20 ∷ 8 ∷ []
 request-places = refl
 
 response-places :

@@ -33,7 +33,8 @@ use Rattle.drive.specs.Drive.{openSlot, activePlace, activeSlot, slotInU
 
 -- which of its tests gives the number, by the test's place, and that none does
 module _ (image cells marks : List ℕ) where
-  pub check-at : (k : ℕ) → Past k (driveTests image cells marks) → testAt (driveTests image cells marks) k ≡ true → Refused (refusalAt (driveTests image cells marks) k) ≡ checkOf image cells marks
+  pub check-at : (k : ℕ) → Past k (driveTests image cells marks) → testAt (driveTests image cells marks) k ≡ true
+      → Refused (refusalAt (driveTests image cells marks) k) ≡ checkOf image cells marks
   unfolding checkOf
   check-at k = refused-at Refused (Ready (headerOf image)) k (driveTests image cells marks)
 
@@ -42,7 +43,8 @@ module _ (image cells marks : List ℕ) where
   check-past p e = ap Ready e ∙ past-all Refused (Ready (headerOf image)) (driveTests image cells marks) p
 
 -- the code's test of the lengths, at the header that was read
-pub arrays-are : (image cells marks : List ℕ) (header : Header) → header ≡ headerOf image → (eqb (length cells) (header .cells) && eqb (length marks) (header .cells)) ≡ wholeArrays image cells marks
+pub arrays-are : (image cells marks : List ℕ) (header : Header) → header ≡ headerOf image
+    → (eqb (length cells) (header .cells) && eqb (length marks) (header .cells)) ≡ wholeArrays image cells marks
 unfolding wholeArrays
 arrays-are image cells marks header e = rw e
 

@@ -87,7 +87,8 @@ module _ (image marks : List ℕ) (i k mask : ℕ) (s : State) where
   pub late-is-uncut : burnsIn (erasureOf image marks i s .told) ≤ k → eraseOf image marks i k mask s ≡ erasureOf image marks i s
   unfolding eraseOf
   late-is-uncut =
-      first-both (λ (o u : Outcome Answer State). burnsIn (u .told) ≤ k → o ≡ u) (refusing unburned s) (refusing unburned s) tests (burning image marks i k mask s) (burning image marks i never 0 s)
+      first-both (λ (o u : Outcome Answer State). burnsIn (u .told) ≤ k → o ≡ u)
+      (refusing unburned s) (refusing unburned s) tests (burning image marks i k mask s) (burning image marks i never 0 s)
       (λ n _ late. refl)
       (λ none late.
       let r = runOn image (s .cells) marks i never 0 in

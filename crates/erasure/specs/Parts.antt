@@ -84,7 +84,8 @@ module _ (image cells marks : List ℕ) (i k mask : ℕ) (whole : Whole image ce
   run-length = length-put image cells i after (part-end image cells i whole l) kept-long
 
 -- two arrays that agree outside a partition and in it agree
-pub same-array : (image : List ℕ) (i : ℕ) (c d : List ℕ) → length c ≡ length d → ((j : ℕ) → Outside image i j → getD c j 0 ≡ getD d j 0) → cellsOf image c i ≡ cellsOf image d i → c ≡ d
+pub same-array : (image : List ℕ) (i : ℕ) (c d : List ℕ) → length c ≡ length d → ((j : ℕ) → Outside image i j → getD c j 0 ≡ getD d j 0)
+    → cellsOf image c i ≡ cellsOf image d i → c ≡ d
 same-array image i c d long out part =
     let x = entryOf image i in
     ext-getD 0 c d long

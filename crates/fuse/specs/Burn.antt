@@ -66,7 +66,8 @@ module _ (f n : ℕ) where
       let e : k ≡ f + (k - f) = omega arith in
       ap (λ (j : ℕ). take n (drop f (set l j a))) e ∙ ap (take n) (drop-set-add f l (k - f) a) ∙ take-set-le n (drop f l) (k - f) a (omega arith)
 
-  pub burn-apart : (marks : List ℕ) (k : ℕ) (wide : Bool) (v : ℕ) (cells : List ℕ) → (k + cellsIn wide ≤ f) ⊎ (f + n ≤ k) → take n (drop f (burnWord marks k wide v cells)) ≡ take n (drop f cells)
+  pub burn-apart : (marks : List ℕ) (k : ℕ) (wide : Bool) (v : ℕ) (cells : List ℕ) → (k + cellsIn wide ≤ f) ⊎ (f + n ≤ k)
+      → take n (drop f (burnWord marks k wide v cells)) ≡ take n (drop f cells)
   unfolding burnWord burnCell
   burn-apart marks k true v cells (inl h) = set-apart _ (k + 1) _ (inl (omega arith)) ∙ set-apart cells k _ (inl (omega arith))
   burn-apart marks k true v cells (inr h) = set-apart _ (k + 1) _ (inr (omega arith)) ∙ set-apart cells k _ (inr h)

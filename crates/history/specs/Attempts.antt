@@ -50,7 +50,8 @@ shown e response = ap (Replying (replyOf e)) (by (eqb (e .refusal) 0))
     by false = refl
 
 -- past the tests it is refused with 15 or not at all
-fers-late : (image : List ℕ) (i : ℕ) (t : Tally) (end : End) → refusal (effectTells (fersOf (answerBy end image i t))) ≤ 6 → 1 ≤ refusal (effectTells (fersOf (answerBy end image i t))) → ⊥
+fers-late : (image : List ℕ) (i : ℕ) (t : Tally) (end : End) → refusal (effectTells (fersOf (answerBy end image i t))) ≤ 6
+    → 1 ≤ refusal (effectTells (fersOf (answerBy end image i t))) → ⊥
 fers-late image i t Whole l m = omega arith
 fers-late image i t Stopped l m = omega arith
 fers-late image i t CutEnd l m = omega arith

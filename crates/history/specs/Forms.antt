@@ -114,7 +114,8 @@ module _ (image marks : List ℕ) (i : ℕ) (cells : List ℕ) where
     -- of a call that is this erasure, and uncut only if the run is
     pub erase-form : (call : Call)
         → ((s : State) (response block : List ℕ) → Does image marks (withBuffers call response block) s (Erasing (erasing s .told)) (erasing s .after .cells))
-        → (Ready → (s : State) → Quiet cells s → told image marks call s ≡ Erasing (ranOf image i (runFrom k mask s) .told) → Uncut image marks call s → runFrom k mask s .end ≡ CutEnd → ⊥)
+        → (Ready → (s : State) → Quiet cells s → told image marks call s ≡ Erasing (ranOf image i (runFrom k mask s) .told)
+        → Uncut image marks call s → runFrom k mask s .end ≡ CutEnd → ⊥)
         → Form call
     unfolding startTests
     erase-form call is uncut =

@@ -94,7 +94,8 @@ module _ (image marks : List ℕ) (s : State) (safe : Safe image s) where
       first-elim (λ (o : Outcome Answer State). Safe image (o .after)) (refusing Refused s) (directTests Nothing command image marks s) (carriedOut Nothing command image marks s)
       (λ n _. safe) (λ none. safe)
   by-safe command (Word i role wide) e =
-      first-elim (λ (o : Outcome Answer State). Safe image (o .after)) (refusing Refused s) (directTests (Word i role wide) command image marks s) (carriedOut (Word i role wide) command image marks s)
+      first-elim (λ (o : Outcome Answer State). Safe image (o .after)) (refusing Refused s)
+      (directTests (Word i role wide) command image marks s) (carriedOut (Word i role wide) command image marks s)
       (λ n _. safe)
       (λ none. let good : mapGood image ≡ true = not-false _ (none 0) in word-safe command i role wide good (word-tells image good (cellOf command) i role wide (sym e)) (none 4))
 

@@ -143,7 +143,8 @@ module _ (image marks : List ℕ) (i : ℕ) (cells : List ℕ) where
             (filled-kept (part marks) (software (entryOf image i)) (headerOf image .bound) k mask (part (s .cells)) j (getD (part cells) j 0) (h j l))
 
     -- an uncut attempt that is accepted has gone through its order, and fills them
-    went-through : (tell : Answer → Told) (t : Tally) → refusal (tell (answerBy Stopped image i t)) ≡ 15 → (end : End) → (end ≡ CutEnd → ⊥) → refusal (tell (answerBy end image i t)) ≡ 0 → end ≡ Whole
+    went-through : (tell : Answer → Told) (t : Tally) → refusal (tell (answerBy Stopped image i t)) ≡ 15 → (end : End) → (end ≡ CutEnd → ⊥)
+        → refusal (tell (answerBy end image i t)) ≡ 0 → end ≡ Whole
     went-through tell t st Whole u z = refl
     went-through tell t st Stopped u z = absurd (omega arith)
     went-through tell t st CutEnd u z = absurd (u refl)
@@ -180,7 +181,8 @@ module _ (image marks : List ℕ) (i : ℕ) (cells : List ℕ) where
               ∙ ap (λ (x : Ran). tell (ranOf image i x .told)) (same-run ready k mask s r (c s (r .quiet) u))
               ∙ sym (as-lent image marks call s (f s (r .quiet)) .0)
 
-      pub alone-cells : (refusal (told image marks call s) ≡ 0) ⊎ (refusal (told image marks call s) ≡ 15) → after image marks (callAlone call alone) start .cells ≡ after image marks call s .cells
+      pub alone-cells : (refusal (told image marks call s) ≡ 0) ⊎ (refusal (told image marks call s) ≡ 15)
+          → after image marks (callAlone call alone) start .cells ≡ after image marks call s .cells
       alone-cells z = by (form image marks i cells call s (r .quiet) a)
         where
           by : Form image marks i cells call → after image marks (callAlone call alone) start .cells ≡ after image marks call s .cells

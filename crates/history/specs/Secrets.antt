@@ -78,7 +78,8 @@ module _ (image marks : List ℕ) (s : State) (cell : ℕ) where
       (λ (e : i ≡ j). false≢true (sym not-secret ∙ ap (λ (p : ℕ). secret (entryOf image p)) e ∙ is-secret)))
       (ordered i j))
 
-  open-by : (found : Lookup) → wordAt image cell ≡ found → shows (directBy found image marks (Read cell) s .told) ≡ true → Open image (s .cells) cell (directBy found image marks (Read cell) s .told)
+  open-by : (found : Lookup) → wordAt image cell ≡ found → shows (directBy found image marks (Read cell) s .told) ≡ true
+      → Open image (s .cells) cell (directBy found image marks (Read cell) s .told)
   unfolding forbidden carriedOut cellsAfter
   open-by NoWord e =
       first-elim (λ (o : Outcome Answer State). shows (o .told) ≡ true → Open image (s .cells) cell (o .told)) (refusing Refused s)
@@ -140,7 +141,8 @@ module _ (image marks : List ℕ) (s : State) (cell : ℕ) (hidden : Secret imag
   unfolding found carriedOut
   write-hides value =
       rw (direct-at image marks (Write cell value) s (hidden .starts))
-      (first-elim (λ (o : Outcome Answer State). shows (o .told) ≡ false) (refusing Refused s) (directTests found (Write cell value) image marks s) (carriedOut found (Write cell value) image marks s)
+      (first-elim (λ (o : Outcome Answer State). shows (o .told) ≡ false) (refusing Refused s)
+      (directTests found (Write cell value) image marks s) (carriedOut found (Write cell value) image marks s)
       (λ n _. refl)
       (λ h. rw (hidden .is-secret)))
 
@@ -168,7 +170,8 @@ ordered-by e =
     (λ _ y. y) (λ _ y. absurd (false≢true y))
 
 -- "No key is loaded unless the active slot is programmed": a call that orders a load finds the HEK available
-pub load-needs-hek : (image marks : List ℕ) (code : ℕ) (request : List ℕ) (l : Lent) → loads (orderIn (mailboxOf image marks code request l .told)) ≡ true → Available image (l .state .cells)
+pub load-needs-hek : (image marks : List ℕ) (code : ℕ) (request : List ℕ) (l : Lent) → loads (orderIn (mailboxOf image marks code request l .told)) ≡ true
+    → Available image (l .state .cells)
 load-needs-hek image marks code request l =
     mailbox-elim image marks code request (length (l .response)) (length (l .block)) (l .state)
     (λ (d : Outcome Effect (List ℕ)). loads (orderIn (replyOf (d .told))) ≡ true → Available image (l .state .cells))

@@ -22,7 +22,8 @@ put-length : (at : ℕ) (t before : List ℕ) → at + length t ≤ length befor
 put-length at t before h = simp (length-append, length-take, length-drop) (omega arith)
 
 -- t in its place
-pub put-is : (at : ℕ) (t before : List ℕ) {after : List ℕ} → at + length t ≤ length before → after ≡ take at before ++ t ++ drop (at + length t) before → Put at t before after (at + length t)
+pub put-is : (at : ℕ) (t before : List ℕ) {after : List ℕ} → at + length t ≤ length before → after ≡ take at before ++ t ++ drop (at + length t) before
+    → Put at t before after (at + length t)
 put-is at t before h e =
     let bytes = e ∙ append-assoc (take at before) t (drop (at + length t) before) in
     record { room = h; same = ap length bytes ∙ put-length at t before h; is-next = refl; bytes = bytes }

@@ -47,7 +47,8 @@ module _ (image request : List ℕ) (s : State) where
   load-past p l t o = rw (l, t, o) (past-all refused (loadOf (s .context) request) (loadTests image request s) p)
 
 module _ (context request : List ℕ) where
-  pub unload-at : (k : ℕ) → Past k (unloadTests context request) → testAt (unloadTests context request) k ≡ true → refused (refusalAt (unloadTests context request) k) ≡ unloadEffect context request
+  pub unload-at : (k : ℕ) → Past k (unloadTests context request) → testAt (unloadTests context request) k ≡ true
+      → refused (refusalAt (unloadTests context request) k) ≡ unloadEffect context request
   unfolding unloadEffect
   unload-at k = refused-at refused (unloadOf context request) k (unloadTests context request)
 
@@ -86,7 +87,8 @@ module _ (image marks request : List ℕ) (s : State) {i : ℕ} (named : i ≡ p
     pub fers-erasable : Whole image (s .cells) → length marks ≡ length (s .cells) → Erasable image (s .cells) marks i
     fers-erasable whole long = record { whole = whole; marks-long = long; partition = leb-false _ _ (passed .none 0); may = not-false _ (passed .none 1) }
 
-    pub fers-does : {answer : Answer} {cells : List ℕ} {e : Effect} → outcome answer cells ≡ uncutOf image (s .cells) marks i → e ≡ fersOf answer → outcome e cells ≡ ownDone Fers image marks request s
+    pub fers-does : {answer : Answer} {cells : List ℕ} {e : Effect} → outcome answer cells ≡ uncutOf image (s .cells) marks i → e ≡ fersOf answer
+        → outcome e cells ≡ ownDone Fers image marks request s
     fers-does {cells = cells} e q = ap (λ (e : Effect). outcome e cells) q ∙ ap (telling fersOf) e ∙ rw (← named) (sym (passed .is))
 
 -- it orders nothing, whatever its erasure answers
@@ -128,10 +130,13 @@ module _ (image marks : List ℕ) (code : ℕ) (request : List ℕ) (room block 
         judged-request n q o =
             sym (past-buffers ∙ rw (← named) (number-refuses refuse (ownTests command image request s) (accepted command image marks request s) (requestTests command code request) n q o))
 
-        pub judged-own : (d : Outcome Effect (List ℕ)) → 0 ≡ numberOf (requestTests command code request) → d ≡ ownDone command image marks request s → d ≡ doneOf image marks code request room block s
+        pub judged-own : (d : Outcome Effect (List ℕ)) → 0 ≡ numberOf (requestTests command code request) → d ≡ ownDone command image marks request s
+            → d ≡ doneOf image marks code request room block s
         unfolding requestTests
         judged-own d z q =
-            q ∙ sym (past-buffers ∙ rw (← named) (number-passes refuse (ownTests command image request s) (accepted command image marks request s) (requestTests command code request) refl z .is))
+            q
+            ∙ sym (past-buffers
+            ∙ rw (← named) (number-passes refuse (ownTests command image request s) (accepted command image marks request s) (requestTests command code request) refl z .is))
 
 -- ---- what an accepted call tells
 

@@ -111,7 +111,8 @@ pub record Taken (input : List ℕ) (len : ℕ) (header : Header) : Type 0 where
   pub count : header .cells ≡ cellCount input
   pub count-most : header .cells ≤ 2048
 
-pub taken : (input : List ℕ) (len : ℕ) (header : Header) → readingOf input ≡ Drive → len ≡ mapLength input → header ≡ headerOf (take (2 + len - 2) (drop 2 input)) → Taken input len header
+pub taken : (input : List ℕ) (len : ℕ) (header : Header) → readingOf input ≡ Drive → len ≡ mapLength input
+    → header ≡ headerOf (take (2 + len - 2) (drop 2 input)) → Taken input len header
 taken input len header r e q =
     let a = accepted input r in
     let image = image-is input e in
@@ -143,7 +144,8 @@ printed-by input before after r t e p =
 
 -- ---- every number of the table is below 10,000, so that its decimal reads back (`text`, `decimal-reads`)
 
-pub small-numbers : (image cells : List ℕ) → mapGood image ≡ true → (i : ℕ) → i < headerOf image .partitions → (i < 10000) × (entryOf image i .n < 10000) × (surveyAt image cells i .short < 10000)
+pub small-numbers : (image cells : List ℕ) → mapGood image ≡ true → (i : ℕ) → i < headerOf image .partitions
+    → (i < 10000) × (entryOf image i .n < 10000) × (surveyAt image cells i .short < 10000)
 small-numbers image cells g i l =
     let h = map-header image g in
     let x = map-entry image g i l in
