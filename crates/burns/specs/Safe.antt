@@ -21,7 +21,7 @@ use Rattle.burns.specs.declared.End.the-variants.{Whole, Stopped, Cut}
 use Rattle.burns.specs.Run.{pairFrom, dataWords, order, Tally, start, carry, goesOn, stopsAfter, Ran, ran, burnsOf, run}
 use Rattle.burns.specs.Turns.{stops-later}
 use Rattle.burns.specs.Cells.{full, Between, between-refl, between-trans, full-same, full-stays, Grown, grown-burn, burn-before, burn-fills, turn-keeps}
-use Rattle.burns.specs.Cells.{grown-burns, stopped-not-whole, cut-not-stopped, run-fills}
+use Rattle.burns.specs.Cells.{grown-burns, cut-not-whole, stopped-not-whole, cut-not-stopped, run-fills}
 
 -- ---- whether a run goes on after its first burn: all that is said of it here is in these three laws
 
@@ -139,19 +139,19 @@ module _ (marks : List ℕ) (bound : ℕ) (s : List ℕ) (four : 4 ≤ length s)
   full-on : (c d : List ℕ) → length c ≡ length s → length d ≡ length s → IndicatorFull marks s c → IndicatorFull marks s d → goesOn bound c ≡ goesOn bound d
   full-on c d p q f g = on-same bound (length s) c d (omega arith) even p q (λ j a b. f j a b ∙ sym (g j a b))
 
+  -- a closed indicator stays closed
+  closed-grown : {c d : List ℕ} → Safe marks bound s c → Grown marks c d → Closed marks bound s c → Closed marks bound s d
+  closed-grown {c} {d} h g k =
+      let filled : IndicatorFull marks s d = λ j a b. full-stays (getD marks j 0) (getD s j 0) (k .filled j a b) (g .each j) in
+      record { filled = filled; on = full-on d c (g .len ∙ h .len) (h .len) filled (k .filled) ∙ k .on }
+
   -- burns keep cells safe where the indicator was closed before them, or the rest is untouched after them
   safe-grown : {c d : List ℕ} → Safe marks bound s c → Grown marks c d → Closed marks bound s c ⊎ Untouched s d → Safe marks bound s d
-  safe-grown {c} {d} h g gate =
-      let len = g .len ∙ h .len in
-      record {
-        len = len;
-        between = λ j. between-trans (h .between j) (g .each j);
-        gate = ⊎-elim
-            (λ (k : Closed marks bound s c).
-            let filled : IndicatorFull marks s d = λ j a b. full-stays (getD marks j 0) (getD s j 0) (k .filled j a b) (g .each j) in
-            inl (record { filled = filled; on = full-on d c len (h .len) filled (k .filled) ∙ k .on }))
-            inr gate;
-      }
+  safe-grown {c} h g gate = record {
+    len = g .len ∙ h .len;
+    between = λ j. between-trans (h .between j) (g .each j);
+    gate = ⊎-elim (λ (k : Closed marks bound s c). inl (closed-grown h g k)) inr gate;
+  }
 
   -- so does any burn of the indicator
   safe-burn : (v : ℕ) {c : List ℕ} → Safe marks bound s c → Safe marks bound s (burnWord marks (length s - 2) true v c)
@@ -215,6 +215,17 @@ module _ {marks : List ℕ} {bound : ℕ} {s c : List ℕ} (h : Safe marks bound
       (safe-burn marks bound s four even mask h) (λ _. after)
       (λ j on. safe-grown marks bound s four even after (grown-burns marks bound mask j (rest software (length s)) (first marks (length s) c))
       (inl (record { filled = first-full marks bound s four even h; on = on }))))
+
+  -- where it goes through its order, a run would go on from what it leaves: the indicator is not short
+  pub whole-on : run marks software bound k mask c .end ≡ Whole → goesOn bound (run marks software bound k mask c .tally .cells) ≡ true
+  whole-on =
+      rw (h .len)
+      (first-keeps (λ (r : Ran). r .end ≡ Whole → goesOn bound (r .tally .cells) ≡ true) marks software bound k mask (length s) c
+      (λ e. absurd (cut-not-whole e)) (λ _ e. absurd (stopped-not-whole e))
+      (λ j on _.
+      closed-grown marks bound s four even (safe-burn marks bound s four even allOnes h)
+      (grown-burns marks bound mask j (rest software (length s)) (first marks (length s) c))
+      (record { filled = first-full marks bound s four even h; on = on }) .on))
 
   -- it ends as the same run from the start
   pub run-alike : Alike (run marks software bound k mask c) (run marks software bound k mask s)

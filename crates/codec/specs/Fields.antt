@@ -1,7 +1,8 @@
 -- Document 01, "Mailbox", the table: the commands, their codes, and one field list for each request and each response, from which
 -- requests are read and responses written. Assumes nothing.
 use Prim.Native.Nat.{ℕ, _+_, _*_, _^_}
-use mathlib.Core.Bool.{Bool, true, false, cond}
+use mathlib.Core.Path.{_≡_}
+use mathlib.Core.Bool.{Bool, true, false, cond, _||_}
 use mathlib.Core.List.{List, [], _∷_, _++_, map}
 use lib.Dec.{eqb}
 use lib.ListN.{length, take, drop}
@@ -65,6 +66,11 @@ pub data Field : Type 0 where
 abbrev pub same : Field → Field → Bool
 same f g = isYes (field-discrete f g)
 
+-- a field of the list
+abbrev pub among : Field → List Field → Bool
+among field [] = false
+among field (f ∷ fields) = same field f || among field fields
+
 -- "Little-endian u32 fields"; "64 MEK bytes"
 abbrev pub width : Field → ℕ
 width field = cond (same Mek field) 64 4
@@ -113,6 +119,15 @@ numberAt fields field message = u32At message (placeOf field fields)
 -- the tag of a message, from its halves
 abbrev pub tagAt : List Field → (message : List ℕ) → ℕ
 tagAt fields message = numberAt fields Tag-low message + 2 ^ 32 * numberAt fields Tag-high message
+
+-- the timeout in a request, and the tag, by the list of every command that asks for one
+abbrev pub TimeoutIn : (request : List ℕ) (timeout : ℕ) → Type 0
+TimeoutIn request timeout =
+    (command : Command) → among Cmd-timeout (requestFields command) ≡ true → timeout ≡ numberAt (requestFields command) Cmd-timeout request
+
+abbrev pub TagIn : (request : List ℕ) (tag : ℕ) → Type 0
+TagIn request tag =
+    (command : Command) → among Tag-low (requestFields command) ≡ true → tag ≡ tagAt (requestFields command) request
 
 -- the bytes of a field of a message
 abbrev pub bytesAt : List Field → Field → (message : List ℕ) → List ℕ

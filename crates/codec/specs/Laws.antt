@@ -1,9 +1,9 @@
 -- The laws of messages: a request's refusal by the place of the first test that applies, and demand 2's "by the same field lists":
 -- what is written by a list reads back by it. Assumes nothing.
-use Prim.Native.Nat.{ℕ, zero, suc, _+_, _*_, _≤_, _<_}
+use Prim.Native.Nat.{ℕ, zero, suc, _+_, _*_, _^_, _≤_, _<_}
 use mathlib.Core.Path.{_≡_, refl, sym, ap, _∙_}
 use mathlib.Core.Logic.{⊎-elim}
-use mathlib.Core.Bool.{Bool, true, false, cond, _&&_, _||_, false≢true}
+use mathlib.Core.Bool.{Bool, true, false, cond, _&&_, false≢true}
 use mathlib.Core.List.{List, [], _∷_, _++_, append-assoc, map}
 use native.Mathlib.Omega.{arith}
 use native.Mathlib.Numerals.{add-one}
@@ -15,14 +15,14 @@ use borrow.Author.Tests.{eqb-true}
 use Rattle.laws.specs.Tests.{decided, not-yes, and, is-yes, neither}
 use Rattle.laws.specs.Refusals.{numberOf, testAt, refusalAt, Past, refused-at, past-all}
 use Rattle.laws.specs.Put.{Put}
-use Rattle.endian.specs.Endian.{u32-at, bytes4}
+use Rattle.endian.specs.Endian.{u32At, u32-at, bytes4}
 use Rattle.chksum.specs.Chksum.{closed, responseSum}
 use Rattle.chksum.specs.Laws.{closed-is}
 use Rattle.codec.specs.declared.Numbers.{Numbers}
 use Rattle.codec.specs.declared.Command.{Command}
 use Rattle.codec.specs.declared.Command.the-variants.{Clkc, Klod, Kunl, Fers, Fsta, Unknown}
-use Rattle.codec.specs.Fields.{Field, Mek, field-discrete, same, width, answered, requestFields, responseFields, lengthOf, placeOf}
-use Rattle.codec.specs.Fields.{numberAt, bytesAt, mekAt, joined, written, numbersIn, heldBy, responseOf, responseIn, leastRoom}
+use Rattle.codec.specs.Fields.{Field, Mek, field-discrete, same, among, width, answered, requestFields, responseFields, lengthOf, placeOf}
+use Rattle.codec.specs.Fields.{numberAt, TimeoutIn, TagIn, bytesAt, mekAt, joined, written, numbersIn, heldBy, responseOf, responseIn, leastRoom}
 use Rattle.codec.specs.Request.{requestTests}
 
 -- ---- which of a request's tests gives the number, by the test's place; 0 where none does
@@ -37,12 +37,7 @@ module _ (command : Command) (code : ℕ) (request : List ℕ) where
 
 -- ---- "Requests are read and responses written by the same field lists": what was written by a list reads back by it
 
--- a field of the list
-abbrev pub among : Field → List Field → Bool
-among field [] = false
-among field (f ∷ fields) = same field f || among field fields
-
--- and its place in it
+-- a field's place in the list
 abbrev pub indexOf : Field → List Field → ℕ
 indexOf field [] = 0
 indexOf field (f ∷ fields) = cond (same field f) 0 (suc (indexOf field fields))
@@ -80,6 +75,23 @@ number-stands fields parts field rest v s a n e =
     u32-at _ _ _ (ap (λ (k : ℕ). take k (drop (placeOf field fields) (joined parts ++ rest))) (sym four) ∙ stands fields parts field rest s a ∙ e)
 
 -- ---- a request
+
+-- the timeout, and the tag, stand at the same place in each list that has one
+pub timeout-in : (request : List ℕ) {timeout : ℕ} → timeout ≡ u32At request 8 → TimeoutIn request timeout
+timeout-in request e Clkc a = e
+timeout-in request e Klod a = e
+timeout-in request e Kunl a = e
+timeout-in request e Fers a = absurd (false≢true a)
+timeout-in request e Fsta a = absurd (false≢true a)
+timeout-in request e Unknown a = absurd (false≢true a)
+
+pub tag-in : (request : List ℕ) {tag : ℕ} → tag ≡ u32At request 12 + 2 ^ 32 * u32At request 16 → TagIn request tag
+tag-in request e Clkc a = absurd (false≢true a)
+tag-in request e Klod a = e
+tag-in request e Kunl a = e
+tag-in request e Fers a = absurd (false≢true a)
+tag-in request e Fsta a = absurd (false≢true a)
+tag-in request e Unknown a = absurd (false≢true a)
 
 -- what is made of each field stands at its place
 made : (f : Field → List ℕ) (fields : List Field) (field : Field) → among field fields ≡ true → getD (map f fields) (indexOf field fields) [] ≡ f field

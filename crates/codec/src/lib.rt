@@ -7,7 +7,8 @@ ghost use Prim.Native.Nat.{_+_, _*_, _≤_, _<_};
 ghost use lib.ListN.{length, take, getD};
 ghost use Rattle.laws.specs.Put.{Put};
 ghost use Rattle.laws.specs.Refusals.{numberOf};
-ghost use Rattle.codec.specs.Fields.{commandOf, known, Cmd-timeout, Partition, asked, answered, lengthOf, requestFields, responseFields, numberAt, tagAt, mekAt, written, twoNumbers, oneNumber, noNumbers, numbersIn, responseIn, leastRoom};
+ghost use Rattle.codec.specs.Fields.{commandOf, known, Partition, asked, answered, lengthOf, requestFields, responseFields};
+ghost use Rattle.codec.specs.Fields.{numberAt, mekAt, TimeoutIn, TagIn, written, twoNumbers, oneNumber, noNumbers, numbersIn, responseIn, leastRoom};
 ghost use Rattle.codec.specs.Request.{requestTests};
 
 // The commands that the mailbox knows, and any other code.
@@ -121,9 +122,9 @@ pub fn request_refusal(command: Command, code: u32, request: &[u8]) -> u32
     0
 }
 
-// The timeout in a request of CLKC, KLOD or KUNL.
+// The timeout in a request, by the list of every command that has one.
 pub fn timeout_of(request: &[u8]) -> u32
-    ensures { λ r. ⌜ r ≡ numberAt (requestFields Command.Klod) Cmd-timeout (now (request .entry)) ⌝ }
+    ensures { λ r. ⌜ TimeoutIn (now (request .entry)) r ⌝ }
 {
     endian::u32_at(request, CMD_TIMEOUT)
 }
@@ -135,9 +136,9 @@ pub fn partition_of(request: &[u8]) -> u32
     endian::u32_at(request, PARTITION)
 }
 
-// The tag in a request of KLOD or KUNL.
+// The tag in a request, by the list of every command that has one.
 pub fn tag_of(request: &[u8]) -> u64
-    ensures { λ r. ⌜ r ≡ tagAt (requestFields Command.Klod) (now (request .entry)) ⌝ }
+    ensures { λ r. ⌜ TagIn (now (request .entry)) r ⌝ }
 {
     let low = endian::u32_at(request, TAG_LOW);
     let high = endian::u32_at(request, TAG_HIGH);

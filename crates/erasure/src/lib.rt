@@ -3,7 +3,8 @@
 // the array, cut or not. `erase`, `erase_cut` and `restart` are the entry points: they answer for any
 // bytes and any lengths. `erase_judged` serves FERS. The definitions are in `specs/Erasure`, the laws
 // in `specs/Laws`, what a run leaves of the whole array in `specs/Parts`, what holds of cuts in
-// `specs/Cuts`. It rests on `burns`, `drive`, `cache`, `context` and what lies below them.
+// `specs/Cuts`, what an ended erasure leaves in `specs/Ends`. It rests on `burns`, `drive`, `cache`,
+// `context` and what lies below them.
 use burns::End;
 use burns::Report;
 use context::Context;

@@ -1,4 +1,5 @@
 -- The laws of burning and counting, for callers. Assumes nothing.
+--     mark-on-set a mark on a set fuse has no effect
 --     keeps       a burn clears nothing
 --     only-of-v, only-free, stuck-stays   it adds only fuses of v, and only unstuck ones
 --     mono        it is monotone in the cell and in v
@@ -14,15 +15,24 @@ use native.Mathlib.Nat.{lt-of-le-of-lt}
 use native.Mathlib.Omega.{arith}
 use lib.ListN.{take, drop, set}
 use lib.Seq.{drop-set-lt, drop-set-add, take-set-le}
-use mathlib.Core.Logic.{_⊎_, inl, inr}
+use mathlib.Core.Logic.{_⊎_, inl, inr, ⊎-elim}
 use lib.Bits.{bitAnd, bitOr, or-lt, and-le-r}
 use lib.Count.{ones}
 use lib.Pow.{ones-sub-lt}
 use borrow.Author.Tests.{lt-ltb, ltb-true}
-use Rattle.laws.specs.Bits.{_⊆_, ext, bit-or, bit-and, bit-not, sub-refl, sub-antisym, sub-or-l, sub-or-r, sub-and-l, sub-and-r, or-lub, or-mono, and-mono}
+use Rattle.laws.specs.Tests.{lt-or-le}
+use Rattle.laws.specs.Bits.{bit, _⊆_, ext, bit-or, bit-and, bit-not, sub-refl, sub-antisym, sub-or-l, sub-or-r, sub-and-l, sub-and-r, or-lub, or-mono, and-mono}
 use Rattle.laws.specs.Bits.{full-and}
 use Rattle.laws.specs.Ones.{counted, count-le, count-mono, cat-sub}
 use Rattle.fuse.specs.Fuse.{allSet, free, burn, pairOf, onesOf, short, cellsIn, burnCell, burnWord}
+
+-- "A mark on a set fuse has no effect": two marks that differ only on set fuses make the same burn
+pub mark-on-set : (cell v : ℕ) {mark other : ℕ} → mark < 2 ^ 32 → other < 2 ^ 32 → ((i : ℕ) → bit i cell ≡ 0 → bit i mark ≡ bit i other)
+    → burn cell v mark ≡ burn cell v other
+mark-on-set cell v h h′ same =
+    ext _ _
+    (λ i. simp (bit-or, bit-and, bit-not 32 h, bit-not 32 h′)
+    (⊎-elim (λ (unset : bit i cell < 1). omega (arith, same i (omega arith))) (λ (set : 1 ≤ bit i cell). omega arith) (lt-or-le (bit i cell) 1)))
 
 module _ (stuck : ℕ) where
   pub keeps : (x v : ℕ) → x ⊆ burn x v stuck

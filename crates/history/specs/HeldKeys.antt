@@ -140,7 +140,7 @@ module _ (image marks : List ℕ) (s : State) (safe : Safe image s) where
 
   mailbox-safe : (code : ℕ) (request response block : List ℕ) → Safe image (after image marks (Mailbox code request response block) s)
   mailbox-safe code request response block =
-      mailbox-elim image marks code request (length response) (length block) s DoneSafe (λ n _. safe) (accepted-safe (commandOf code) request)
+      mailbox-elim image marks code request (length response) (length block) s DoneSafe (λ n _ _. safe) (accepted-safe (commandOf code) request)
 
 -- ---- every list of calls
 

@@ -8,4 +8,5 @@ pub mod Forms
 pub mod Attempts
 pub mod Reached
 pub mod Demand3Proof
+pub mod Fronts
 pub mod SmallDrive

@@ -133,7 +133,7 @@ module _ (image marks : List ℕ) (s : State) where
 
   mailbox-stays : (code : ℕ) (request : List ℕ) (room block : ℕ) → Stays (doneOf image marks code request room block s)
   mailbox-stays code request room block =
-      mailbox-elim image marks code request room block s Stays (λ n _ l o. refl) (accepted-stays (commandOf code) request)
+      mailbox-elim image marks code request room block s Stays (λ n _ _ l o. refl) (accepted-stays (commandOf code) request)
 
   -- so every call
   pub refused-unchanged : (call : Call) → Unchanged image marks call s
@@ -278,5 +278,5 @@ module _ (image marks : List ℕ) (s : State) where
   refused-15 (EraseCut i k mask) = λ z. let both = erase-15 i k mask z in rw (both .0) (both .1)
   refused-15 (Mailbox code request response block) =
       mailbox-elim image marks code request (length response) (length block) s (Mailbox15 (partitionIn request))
-      (λ n o z. absurd (o (reply-number (refused n) 14 z))) (accepted-15 (commandOf code) request)
+      (λ n _ o z. absurd (o (reply-number (refused n) 14 z))) (accepted-15 (commandOf code) request)
   refused-15 Restart = λ z. absurd (omega arith)

@@ -175,7 +175,7 @@ pub load-needs-hek : (image marks : List ℕ) (code : ℕ) (request : List ℕ) 
 load-needs-hek image marks code request l =
     mailbox-elim image marks code request (length (l .response)) (length (l .block)) (l .state)
     (λ (d : Outcome Effect (List ℕ)). loads (orderIn (replyOf (d .told))) ≡ true → Available image (l .state .cells))
-    (λ n _ y. absurd (false≢true (ordered-by (refused n) y)))
+    (λ n _ _ y. absurd (false≢true (ordered-by (refused n) y)))
     (λ good arrays k none y.
     let named = load-only (commandOf code) image marks request (l .state) (ordered-by (accepted (commandOf code) image marks request (l .state) .told) y) in
     available-tells image (l .state .cells) (not-false _ (rw named at (none 0))))

@@ -3,25 +3,35 @@ use Prim.Native.Nat.{ℕ, suc}
 use mathlib.Core.Path.{_≡_, refl, sym, subst, _∙_}
 use mathlib.Core.Bool.{Bool, true, false}
 use mathlib.Core.List.{List}
-use borrow.Author.Tests.{ne-eqb, not-false}
+use native.Mathlib.Omega.{arith}
+use lib.ListN.{length}
+use borrow.Author.Tests.{ne-eqb, not-false, leb-false}
 use Rattle.laws.specs.Refusals.{firstOf, first-elim, first-map, first-agree, testAt, Applies, not-applies}
 use Rattle.laws.specs.Refusals.{GivenFirst, given-first, GivenLowest, lowest-tells}
-use Rattle.context.specs.State.{State, Outcome, refusing}
+use Rattle.context.specs.State.{State, Outcome, outcome, refusing, telling}
 use Rattle.map.specs.Map.{mapGood}
-use Rattle.drive.specs.Drive.{wholeArrays, slotNumber}
+use Rattle.drive.specs.Drive.{wholeArrays, slotNumber, surveyAt}
 use Rattle.drive.specs.declared.ActiveSlot.{ActiveSlot}
 use Rattle.cache.specs.Cache.{cacheOf, lowestPlace}
 use Rattle.cache.specs.declared.Sought.the-variants.{Empty}
+use Rattle.partition.specs.declared.Survey.{Survey}
+use Rattle.burns.specs.declared.End.{End}
+use Rattle.burns.specs.declared.End.the-variants.{Whole, Stopped, Cut as CutEnd}
+use Rattle.burns.specs.Run.{Tally}
 use Rattle.erasure.specs.declared.Answer.the-variants.{Ended}
+use Rattle.erasure.specs.Erasure.{runOn, never, answerBy}
+use Rattle.erasure.specs.Cuts.{whole-by}
+use Rattle.erasure.specs.Ends.{LeftBy, LeftAs, run-left-as}
+use Rattle.engine.specs.declared.Order.{Order}
 use Rattle.codec.specs.declared.Command.the-variants.{Klod, Fers, Fsta}
 use Rattle.codec.specs.Fields.{known, Place, Short-pairs, First-short, Active-slot, Hek-available, responseFields, numberAt}
-use Rattle.codec.specs.Fields.{commandOf, oneNumber, twoNumbers}
+use Rattle.codec.specs.Fields.{codeOf, commandOf, noNumbers, oneNumber, twoNumbers}
 use Rattle.codec.specs.Request.{requestTests}
 use Rattle.codec.specs.Laws.{response-reads}
 use Rattle.mailbox.specs.declared.Effect.{Effect}
-use Rattle.mailbox.specs.declared.Reply.the-variants.{Refused}
+use Rattle.mailbox.specs.declared.Reply.the-variants.{Refused, Accepted}
 use Rattle.mailbox.specs.Mailbox.{replyOf, refused, loadOf, fersOf, hekNumber, statusOf, accepted}
-use Rattle.mailbox.specs.Mailbox.{ownTests, buffersBad, mailboxTests, doneOf, responseAfter}
+use Rattle.mailbox.specs.Mailbox.{partitionIn, ownTests, buffersBad, mailboxTests, doneOf, responseAfter, Lent, mailboxOf}
 use Rattle.mailbox.specs.Laws.{numbered-by}
 
 -- ---- a host that reads the response by its list finds what is meant
@@ -80,8 +90,8 @@ module _ (image marks : List ℕ) (code : ℕ) (request : List ℕ) (room block 
       subst (GivenLowest Refused callTests (replyOf (callDone .told))) (sym told-by)
       (lowest-tells Refused (replyOf (callDone .told)) 1 callTests (numbered-by (commandOf code) image marks code request (buffersBad room block) s .ascend))
 
-  -- what holds of every refusal by the tests, none of which is 15, and of what an accepted call does, holds of what is done
-  pub mailbox-elim : (P : Outcome Effect (List ℕ) → Type 0) → ((n : ℕ) → (n ≡ 15 → ⊥) → P (refusing refused (s .cells) n))
+  -- what holds of every refusal by the tests, none of which is 0 or 15, and of what an accepted call does, holds of what is done
+  pub mailbox-elim : (P : Outcome Effect (List ℕ) → Type 0) → ((n : ℕ) → (n ≡ 0 → ⊥) → (n ≡ 15 → ⊥) → P (refusing refused (s .cells) n))
       → (mapGood image ≡ true → wholeArrays image (s .cells) marks ≡ true → known (commandOf code) ≡ true
       → ((k : ℕ) → testAt (ownTests (commandOf code) image request s) k ≡ false) → P callDone)
       → P (doneOf image marks code request room block s)
@@ -89,6 +99,48 @@ module _ (image marks : List ℕ) (code : ℕ) (request : List ℕ) (room block 
   mailbox-elim P by-test by-command =
       let numbered = numbered-by (commandOf code) image marks code request (buffersBad room block) s in
       first-elim P (refusing refused (s .cells)) callTests callDone
-      (λ n a. by-test n (λ e. not-applies 15 callTests (numbered .not-15) (subst (λ (m : ℕ). Applies m callTests) e a)))
+      (λ n a.
+      by-test n (λ e. not-applies 0 callTests (numbered .not-0) (subst (λ (m : ℕ). Applies m callTests) e a))
+      (λ e. not-applies 15 callTests (numbered .not-15) (subst (λ (m : ℕ). Applies m callTests) e a)))
       -- two tests of the drive, one of the buffers, four of the request, then the command's own
       (λ none. by-command (not-false _ (none 0)) (not-false _ (none 1)) (not-false _ (none 3)) (λ k. none (suc (suc (suc (suc (suc (suc (suc k)))))))))
+
+-- ---- FERS that ended: its partition is erased where the response has no short pair, torn otherwise
+
+module _ (image marks request : List ℕ) (l : Lent) where
+  abbrev p : ℕ
+  p = partitionIn request
+
+  -- the short pairs, as a host reads them
+  abbrev shortRead : (response : List ℕ) → ℕ
+  shortRead response = numberAt (responseFields Fers noNumbers) Short-pairs response
+
+  abbrev FersLeaves : Outcome Effect (List ℕ) → Type 0
+  FersLeaves d =
+      (n : ℕ) (order : Order) → replyOf (d .told) ≡ Accepted n order
+      → LeftBy (shortRead (responseAfter (d .told) (l .response))) (surveyAt image (d .after) p)
+
+  refused-not : {A : Type 0} {n m : ℕ} {order : Order} → Refused n ≡ Accepted m order → A
+  refused-not e = let z : _≡_ {A = ℕ} 0 1 = cc in absurd (omega arith)
+
+  read-back : (short first burns : ℕ) (left : Survey) → LeftBy short left
+      → LeftBy (shortRead (responseAfter (fersOf (Ended short first burns)) (l .response))) left
+  read-back short first burns left h = subst (λ (n : ℕ). LeftBy n left) (sym (ended-reads short first burns (l .response) .0)) h
+
+  by-end : (end : End) (t : Tally) → LeftAs image p (answerBy end image p t) (t .cells)
+      → FersLeaves (telling fersOf (outcome (answerBy end image p t) (t .cells)))
+  by-end Whole t h n order e = read-back _ _ (t .burns) _ h
+  by-end Stopped t h n order e = refused-not e
+  by-end CutEnd t h n order e = refused-not e
+
+  pub fers-leaves : let o = mailboxOf image marks (codeOf Fers) request l in
+      (n : ℕ) (order : Order) → o .told ≡ Accepted n order → LeftBy (shortRead (o .after .response)) (surveyAt image (o .after .state .cells) p)
+  fers-leaves =
+      let s = l .state in
+      mailbox-elim image marks (codeOf Fers) request (length (l .response)) (length (l .block)) s FersLeaves
+      (λ n o _ m order e. refused-not (rw (ne-eqb n 0 o) at e))
+      (λ good arrays _ none.
+      let r = runOn image (s .cells) marks p never 0 in
+      by-end (r .end) (r .tally)
+      (run-left-as image (s .cells) marks p never 0 (whole-by image (s .cells) marks good arrays)
+      (leb-false _ _ (none 0)) (not-false _ (none 1)) (r .end) refl))

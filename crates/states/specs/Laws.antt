@@ -2,9 +2,10 @@
 use Prim.Native.Nat.{ℕ, _+_, _<_}
 use mathlib.Core.Path.{_≡_, refl, sym}
 use mathlib.Core.List.{List, [], _++_}
+use native.Mathlib.Omega.{arith}
 use lib.ListN.{length, drop, set}
 use Rattle.laws.specs.Below.{joinBelow, store-next}
-use Rattle.laws.specs.Refusals.{GivenFirst, given-first, GivenLowest, lowest-tells}
+use Rattle.laws.specs.Refusals.{first-elim, GivenFirst, given-first, GivenLowest, lowest-tells}
 use Rattle.context.specs.State.{Outcome, outcome, refusing}
 use Rattle.map.specs.Map.{headerOf}
 use Rattle.map.specs.declared.Header.{Header}
@@ -37,6 +38,12 @@ module _ (image cells marks : List ℕ) (l : Lists) where
 
   pub listing-first : GivenFirst (refusing Refused l) (driveTests image cells marks) all (listingOf image cells marks l)
   listing-first = given-first (refusing Refused l) all (driveTests image cells marks)
+
+  -- "Fuses, cache, block and response stay as they were"; the arrays too: a refused listing leaves both whole
+  pub refused-unlisted : (n : ℕ) → listingOf image cells marks l .told ≡ Refused n → listingOf image cells marks l .after ≡ l
+  refused-unlisted n =
+      first-elim (λ (o : Outcome Listing Lists). o .told ≡ Refused n → o .after ≡ l) (refusing Refused l) (driveTests image cells marks) all
+      (λ m _ e. refl) (λ none e. let z : _≡_ {A = ℕ} 0 1 = cc in absurd (omega arith))
 
   pub lists-none : {n : ℕ} → Bad n ≡ checkOf image cells marks → refusing Refused l n ≡ listingOf image cells marks l
   lists-none e = sym (check-refused (refusing Refused l) [] all image cells marks _ e)

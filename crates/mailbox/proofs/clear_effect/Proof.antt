@@ -1,6 +1,7 @@
 -- `mailbox::clear_effect` meets its contract: at the timeout that was read. Assumes nothing.
-use mathlib.Core.Path.{_∙_}
+use mathlib.Core.Path.{refl, _∙_}
 use borrow.Author.Needs.{needs}
+use Rattle.codec.specs.declared.Command.the-variants.{Clkc}
 use Rattle.mailbox.proofs.clear_effect.Statement.{statement}
 use Rattle.mailbox.proofs.clear_effect.Tie as tie
 
@@ -14,7 +15,7 @@ effect-with-requires : tie.Need-effect-with-requires
 effect-with-requires c κs = search needs
 
 returns : tie.Need-returns
-returns c = c .effect-with .ensures ∙ rw (c .before .before .timeout-of .ensures, c .before .no-numbers .ensures)
+returns c = c .effect-with .ensures ∙ rw (c .before .before .timeout-of .ensures Clkc refl, c .before .no-numbers .ensures)
 
 pub clear-effect-spec : {M : Type 1} → statement M
 clear-effect-spec =

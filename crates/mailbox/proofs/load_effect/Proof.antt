@@ -1,6 +1,6 @@
 -- `mailbox::load_effect` meets its contract: by the place of the first test that applies. Assumes nothing.
 use Prim.Native.Nat.{ℕ}
-use mathlib.Core.Path.{_≡_, sym, ap, _∙_}
+use mathlib.Core.Path.{_≡_, refl, sym, ap, _∙_}
 use mathlib.Core.Bool.{not}
 use borrow.Author.Tests.{lt-ltb, le-ltb}
 use Rattle.drive.specs.Drive.{activeSlot, available}
@@ -33,7 +33,7 @@ found : (c : tie.After-has-place)
     hasPlace (cacheOf (a .context .now)) (Tag (tagAt (requestFields Klod) (a .request .now))) ≡ c .has-place .result
 found c =
     let a = c .before .before .before .before .before .before .before .before .args in
-    sym (c .has-place .ensures ∙ ap (λ (t : ℕ). hasPlace (cacheOf (a .context .now)) (Tag t)) (c .before .tag-of .ensures))
+    sym (c .has-place .ensures ∙ ap (λ (t : ℕ). hasPlace (cacheOf (a .context .now)) (Tag t)) (c .before .tag-of .ensures Klod refl))
 
 returns : tie.Need-returns
 returns c = c .refuse .ensures ∙ load-at _ _ _ 0 tt (asked (c .before .before) ∙ c .before .if1 .taken)
@@ -84,7 +84,7 @@ returns-4 c =
     let room = ap not (lt-ltb _ _ (rw (lowest .lowest-place .ensures .0) at (timeout .before .if3 .left))) in
     c .effect-with .ensures ∙ rw (c .before .one-number .ensures)
     (load-past _ _ _ (asked (there .before) ∙ there .if1 .left, (found (new .before) ∙ new .if2 .left, (room, tt)))
-    (lowest .lowest-place .ensures .0) (new .before .before .tag-of .ensures) (timeout .timeout-of .ensures))
+    (lowest .lowest-place .ensures .0) (new .before .before .tag-of .ensures Klod refl) (timeout .timeout-of .ensures Klod refl))
 
 pub load-effect-spec : {M : Type 1} → statement M
 load-effect-spec =

@@ -1,6 +1,6 @@
 -- `mailbox::unload_effect` meets its contract: by the place that holds the tag. Assumes nothing.
 use Prim.Native.Nat.{ℕ}
-use mathlib.Core.Path.{_≡_, ap, _∙_}
+use mathlib.Core.Path.{_≡_, refl, ap, _∙_}
 use mathlib.Core.Bool.{not}
 use borrow.Author.Tests.{lt-ltb, le-ltb}
 use Rattle.cache.specs.Cache.{cacheOf, lowestPlace}
@@ -27,7 +27,7 @@ found : (c : tie.After-lowest-place)
     c .lowest-place .result ≡ lowestPlace (cacheOf (a .context .now)) (Tag (tagAt (requestFields Kunl) (a .request .now)))
 found c =
     let a = c .before .before .before .args in
-    c .lowest-place .ensures .0 ∙ ap (λ (t : ℕ). lowestPlace (cacheOf (a .context .now)) (Tag t)) (c .before .tag-of .ensures)
+    c .lowest-place .ensures .0 ∙ ap (λ (t : ℕ). lowestPlace (cacheOf (a .context .now)) (Tag t)) (c .before .tag-of .ensures Kunl refl)
 
 returns : tie.Need-returns
 returns c = c .refuse .ensures ∙ unload-at _ _ 0 tt (ap not (le-ltb _ _ (rw (found (c .before .before)) at (c .before .if1 .taken))))
@@ -47,7 +47,7 @@ returns-2 c =
     let lowest = timeout .before .before in
     let there = ap not (lt-ltb _ _ (rw (found lowest) at (timeout .before .if1 .left))) in
     c .effect-with .ensures ∙ rw (c .before .no-numbers .ensures)
-    (unload-past _ _ (there, tt) (lowest .lowest-place .ensures .0) (lowest .before .tag-of .ensures) (timeout .timeout-of .ensures))
+    (unload-past _ _ (there, tt) (lowest .lowest-place .ensures .0) (lowest .before .tag-of .ensures Kunl refl) (timeout .timeout-of .ensures Kunl refl))
 
 pub unload-effect-spec : {M : Type 1} → statement M
 unload-effect-spec =
