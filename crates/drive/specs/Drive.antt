@@ -1,4 +1,4 @@
--- A whole drive, map image, cells and marks: document 01, "Refusal numbers" 1, 2 and 7, and "Active slot and key cache". Assumes nothing.
+-- A whole drive, map image, cells and marks: document 01, "Refusal numbers" 1, 2 and 10, and "Active slot and key cache". Assumes nothing.
 use Prim.Native.Nat.{ℕ}
 use mathlib.Core.Path.{_≡_}
 use mathlib.Core.Bool.{Bool, true, false, cond, _&&_, not}
@@ -17,12 +17,8 @@ use Rattle.cache.specs.declared.Sought.the-variants.{Held}
 use Rattle.drive.specs.declared.Terms.{Terms}
 use Rattle.drive.specs.declared.Check.{Check}
 use Rattle.drive.specs.declared.Check.the-variants.{Ready, Refused}
-use Rattle.drive.specs.declared.Surveyed.{Surveyed}
-use Rattle.drive.specs.declared.Surveyed.the-variants.{Found, Refused as NotSurveyed}
 use Rattle.drive.specs.declared.ActiveSlot.{ActiveSlot}
 use Rattle.drive.specs.declared.ActiveSlot.the-variants.{Programmed as ProgrammedSlot, Blank as BlankSlot, Torn as TornSlot, Absent}
-use Rattle.drive.specs.declared.SlotAnswer.{SlotAnswer}
-use Rattle.drive.specs.declared.SlotAnswer.the-variants.{Slot, Refused as NoAnswer}
 
 -- ---- refusals 1 and 2, which every call on a drive shares
 
@@ -63,14 +59,6 @@ surveyAt image cells i = surveyOf (zeroizable (entryOf image i)) (headerOf image
 -- partition i is counted as zeroized
 unfoldable pub countedAt : (image cells : List ℕ) (i : ℕ) → Bool
 countedAt image cells i = counted (zeroizable (entryOf image i)) (headerOf image .bound) (cellsOf image cells i)
-
--- a partition's survey, or the lowest refusal that applies: 1, 2, or 7, "no such partition"
-abbrev pub surveyedBy : Check → (image cells : List ℕ) (i : ℕ) → Surveyed
-surveyedBy (Refused number) image cells i = NotSurveyed number
-surveyedBy (Ready header) image cells i = cond (ltb i (header .partitions)) (Found (surveyAt image cells i)) (NotSurveyed 7)
-
-abbrev pub surveyedOf : (image cells marks : List ℕ) (i : ℕ) → Surveyed
-surveyedOf image cells marks i = surveyedBy (checkOf image cells marks) image cells i
 
 -- ---- the active slot
 
@@ -116,14 +104,6 @@ available (ProgrammedSlot i) = true
 available (BlankSlot i) = false
 available (TornSlot i) = false
 available Absent = false
-
--- the active slot, or the lowest refusal that applies: 1 or 2
-abbrev pub slotAnswerBy : Check → (image cells : List ℕ) → SlotAnswer
-slotAnswerBy (Refused number) image cells = NoAnswer number
-slotAnswerBy (Ready header) image cells = Slot (activeSlot image cells)
-
-abbrev pub slotAnswerOf : (image cells marks : List ℕ) → SlotAnswer
-slotAnswerOf image cells marks = slotAnswerBy (checkOf image cells marks) image cells
 
 -- ---- slots while a key is held
 

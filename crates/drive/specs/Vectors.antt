@@ -11,11 +11,10 @@ use Rattle.endian.specs.Endian.{u16At}
 use Rattle.map.specs.Map.{headerGood, fillerGood, entryGood, placeGood, mapGood}
 use Rattle.map.specs.Vectors.{image, entry, one}
 use Rattle.partition.specs.Partition.{shortAt, counted, zeroCell, stateOf}
-use Rattle.drive.specs.Drive.{wholeArrays, checkOf, surveyAt, surveyedOf, slotAt, openSlot, activeSlot, available, slotAnswerOf}
+use Rattle.drive.specs.Drive.{wholeArrays, checkOf, surveyAt, slotAt, openSlot, activeSlot, available}
+use Rattle.drive.specs.declared.Check.the-variants.{Refused}
 use Rattle.drive.specs.declared.ActiveSlot.{ActiveSlot}
 use Rattle.drive.specs.declared.ActiveSlot.the-variants.{Programmed, Blank, Torn, Absent}
-use Rattle.drive.specs.declared.SlotAnswer.the-variants.{Refused}
-use Rattle.drive.specs.declared.Surveyed.the-variants.{Refused as NotSurveyed}
 
 abbrev pub erased : List ℕ
 erased = replicate 6 0xFFFF_FFFF
@@ -43,19 +42,17 @@ slots = refl
 hek : map available (Programmed 3 ∷ Blank 3 ∷ Torn 3 ∷ Absent ∷ []) ≡ true ∷ false ∷ false ∷ false ∷ []
 hek = refl
 
--- a map with no slot; refusal 1 before 2, 2 for either array, 7 after both
+-- a map with no slot
 none : activeSlot (one (entry 0 6 0 3)) (replicate 12 0) ≡ Absent
 unfolding activeSlot openSlot slotAt firstFrom u16At
 none = refl
 
+-- refusal 1 before 2, 2 for either array
 refusals :
-    slotAnswerOf [] (0 ∷ []) [] ∷ slotAnswerOf (one (entry 0 6 0 3)) (replicate 11 0) (replicate 12 0) ∷ slotAnswerOf (one (entry 0 6 0 3)) (replicate 12 0) (replicate 13 0) ∷ []
+    checkOf [] (0 ∷ []) []
+    ∷ checkOf (one (entry 0 6 0 3)) (replicate 11 0) (replicate 12 0)
+    ∷ checkOf (one (entry 0 6 0 3)) (replicate 12 0) (replicate 13 0)
+    ∷ []
     ≡ Refused 1 ∷ Refused 2 ∷ Refused 2 ∷ []
 unfolding checkOf wholeArrays mapGood every headerGood fillerGood entryGood placeGood allBelow u16At
 refusals = refl
-
-no-partition :
-    surveyedOf (one (entry 0 6 0 3)) (replicate 12 0) (replicate 12 0) 1 ∷ surveyedOf (one (entry 0 6 0 3)) [] [] 1 ∷ []
-    ≡ NotSurveyed 7 ∷ NotSurveyed 2 ∷ []
-unfolding checkOf wholeArrays mapGood every headerGood fillerGood entryGood placeGood allBelow u16At
-no-partition = refl

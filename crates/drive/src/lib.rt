@@ -1,8 +1,9 @@
 // A whole drive: map image, fuse cells and stuck marks together. The refusals that every call
 // shares, a partition's state, the active slot with its HEK, and whether a slot may not change, since
-// a key is held. The public functions with three slices are entry points: they answer for any bytes
-// and any lengths. The definitions are in `specs/Drive`, the laws for callers in `specs/Laws`. It
-// rests on `map`, `partition` and `cache`, and below them on `context`, `endian` and `laws`.
+// a key is held. The entry point is `check_drive`, which answers for any bytes and any lengths; what
+// asks for a whole drive is for callers that it has accepted. The definitions are in `specs/Drive`,
+// the laws for callers in `specs/Laws`. It rests on `map`, `partition` and `cache`, and below them on
+// `context`, `endian` and `laws`.
 use cache::Sought;
 use context::Context;
 use map::Header;
@@ -11,17 +12,11 @@ use partition::Survey;
 ghost use mathlib.Core.Path.{_≡_};
 ghost use Prim.Native.Nat.{_<_};
 ghost use Rattle.map.specs.Map.{headerOf};
-ghost use Rattle.drive.specs.Drive.{Whole, checkOf, cellsOf, termsOf, surveyAt, countedAt, surveyedOf, slotAt, present, slotNumber, available, activeSlot, slotAnswerOf, slotInUse};
+ghost use Rattle.drive.specs.Drive.{Whole, checkOf, cellsOf, termsOf, surveyAt, countedAt, slotAt, present, slotNumber, available, activeSlot, slotInUse};
 
 // Refusal 1 or 2, or the header of a good map whose arrays have its length.
 pub enum Check {
     Ready(Header),
-    Refused(u32),
-}
-
-// A partition's state and short pairs, or the refusal's number.
-pub enum Surveyed {
-    Found(Survey),
     Refused(u32),
 }
 
@@ -32,12 +27,6 @@ pub enum ActiveSlot {
     Blank(u32),
     Torn(u32),
     Absent,
-}
-
-// The active slot, or the refusal's number.
-pub enum SlotAnswer {
-    Slot(ActiveSlot),
-    Refused(u32),
 }
 
 // Judges map, cells and marks: refusals 1 and 2 in this order.
@@ -100,22 +89,6 @@ pub fn counted_at(image: &[u8], cells: &[u32], i: u32) -> bool
 {
     let terms = terms_of(image, i);
     partition::is_counted(part_of(image, cells, i), terms.bound, terms.zeroizable)
-}
-
-// The state and short pairs of a partition: refusals 1, 2 and 7.
-pub fn survey_partition(image: &[u8], cells: &[u32], marks: &[u32], i: u32) -> Surveyed
-    ensures { λ r. ⌜ r ≡ surveyedOf (now (image .entry)) (now (cells .entry)) (now (marks .entry)) i ⌝ }
-{
-    match check_drive(image, cells, marks) {
-        Check::Refused(number) => Surveyed::Refused(number),
-        Check::Ready(header) => {
-            if i < (header.partitions as u32) {
-                Surveyed::Found(survey_at(image, cells, i))
-            } else {
-                Surveyed::Refused(7)
-            }
-        }
-    }
 }
 
 // Partition `i` as the active slot: absent where it is no slot or is erased.
@@ -192,16 +165,6 @@ pub fn active_in(image: &[u8], cells: &[u32]) -> ActiveSlot
         i += 1;
     };
     active
-}
-
-// The active slot: refusals 1 and 2.
-pub fn active_slot(image: &[u8], cells: &[u32], marks: &[u32]) -> SlotAnswer
-    ensures { λ r. ⌜ r ≡ slotAnswerOf (now (image .entry)) (now (cells .entry)) (now (marks .entry)) ⌝ }
-{
-    match check_drive(image, cells, marks) {
-        Check::Refused(number) => SlotAnswer::Refused(number),
-        Check::Ready(_) => SlotAnswer::Slot(active_in(image, cells)),
-    }
 }
 
 // Whether a partition is a slot while a key is held, refusal 10 of what would change it.

@@ -25,7 +25,7 @@ use Rattle.laws.specs.Put.{Put}
 use Rattle.report.specs.declared.Reading.{Reading}
 use Rattle.report.specs.declared.Reading.the-variants.{Drive, Refused}
 use Rattle.report.specs.Status.{mapLength, imageOf, cellCount, numberAt, inputCells, inputTests, readingOf, lineOf, hekLine, lineAt, tableOf, printed}
-use Rattle.report.specs.Status.{statusOf, Printed}
+use Rattle.report.specs.Status.{statusOf, Printed, SmallLine, SmallSlot}
 
 -- ---- the last line
 
@@ -133,25 +133,29 @@ cells-long input = numbers-long input _ _
 
 -- ---- the whole output
 
-pub printed-by : (input before after : List ℕ) (r : ℕ) (t : Reading) → readingOf input ≡ t → Put 0 (printed t input) before after r → Printed input before after r
-printed-by input before after r t e p =
-    let q : Put 0 (statusOf input) before after r = rw e p in
+-- a text at the front of the buffer
+pub in-front : {t before after : List ℕ} {r : ℕ} → Put 0 t before after r → Printed t before after r
+in-front {t} {before} p =
     record {
-      count = omega (arith, q .is-next);
-      bytes = q .bytes ∙ ap (λ (k : ℕ). statusOf input ++ drop k before) (zero-add (length (statusOf input)));
-      fits = omega (arith, q .is-next, q .room, q .same);
+      count = omega (arith, p .is-next);
+      bytes = p .bytes ∙ ap (λ (k : ℕ). t ++ drop k before) (zero-add (length t));
+      fits = omega (arith, p .is-next, p .room, p .same);
     }
 
--- ---- every number of the table is below 10,000, so that its decimal reads back (`text`, `decimal-reads`)
+pub printed-by : (input before after : List ℕ) (r : ℕ) (reading : Reading) → readingOf input ≡ reading → Put 0 (printed reading input) before after r
+    → Printed (statusOf input) before after r
+printed-by input before after r reading e p = in-front (rw e p)
 
-pub small-numbers : (image cells : List ℕ) → mapGood image ≡ true → (i : ℕ) → i < headerOf image .partitions
-    → (i < 10000) × (entryOf image i .n < 10000) × (surveyAt image cells i .short < 10000)
-small-numbers image cells g i l =
+-- ---- every number of a good map's table has at most four digits, at what was read: the entry and the survey, or the active slot
+
+pub small-line : (image cells : List ℕ) → mapGood image ≡ true → (i : ℕ) → i < headerOf image .partitions → (x : Entry) (survey : Survey) → x ≡ entryOf image i
+    → survey ≡ surveyAt image cells i → SmallLine i (x .n) survey
+small-line image cells g i l x survey e q =
     let h = map-header image g in
-    let x = map-entry image g i l in
-    (omega arith, omega arith, omega (arith, short-most image cells g i l))
+    let y = map-entry image g i l in
+    rw (e, q) (omega arith, omega arith, omega (arith, short-most image cells g i l))
 
-pub small-slot : (image cells : List ℕ) → mapGood image ≡ true → available (activeSlot image cells) ≡ true → slotNumber (activeSlot image cells) < 10000
-small-slot image cells g e =
-    let a = available-tells image cells e in
-    rw (a .answer) (omega (arith, a .within, map-header image g .partitions-most))
+pub small-slot : (image cells : List ℕ) → mapGood image ≡ true → (slot : ActiveSlot) → slot ≡ activeSlot image cells → SmallSlot slot
+small-slot image cells g slot e y =
+    let a = available-tells image cells (rw e at y) in
+    rw (e, a .answer) (omega (arith, a .within, map-header image g .partitions-most))

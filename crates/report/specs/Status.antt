@@ -1,7 +1,7 @@
 -- Document 01, "The small drive", its last part: what the status program prints for the bytes that it reads. Assumes nothing.
-use Prim.Native.Nat.{ℕ, _+_, _*_, _≤_}
+use Prim.Native.Nat.{ℕ, _+_, _*_, _≤_, _<_}
 use mathlib.Core.Path.{_≡_}
-use mathlib.Core.Bool.{Bool, cond, not}
+use mathlib.Core.Bool.{Bool, true, cond, not}
 use mathlib.Core.List.{List, [], _∷_, _++_}
 use lib.ListN.{length, take, drop}
 use lib.Dec.{eqb, ltb}
@@ -17,6 +17,8 @@ use Rattle.drive.specs.Drive.{surveyAt, activeSlot, slotNumber, available}
 use Rattle.text.specs.Text.{text, decimal}
 use Rattle.report.specs.declared.Reading.{Reading}
 use Rattle.report.specs.declared.Reading.the-variants.{Drive, Refused}
+use Rattle.report.specs.declared.Failure.{Failure}
+use Rattle.report.specs.declared.Failure.the-variants.{Input, Output}
 
 -- ---- the input: "a u16 map length, the map, C cells, C marks, each a little-endian u32"
 
@@ -96,8 +98,22 @@ printed Drive input = tableOf (imageOf input) (inputCells input)
 abbrev pub statusOf : (input : List ℕ) → List ℕ
 statusOf input = printed (readingOf input) input
 
+-- ours, since 01 has no words for it: what the program says on standard error where its input cannot be read or its output cannot be
+-- written. It is no line of a table and no refusal
+abbrev pub failureLine : Failure → List ℕ
+failureLine Input = text "status: standard input cannot be read\n"
+failureLine Output = text "status: standard output cannot be written\n"
+
 -- what is in the lent buffer afterwards: the printed bytes, their number answered, and behind them what was there
-pub record Printed (input before after : List ℕ) (answer : ℕ) : Type 0 where
-  pub count : answer ≡ length (statusOf input)
-  pub bytes : after ≡ statusOf input ++ drop (length (statusOf input)) before
+pub record Printed (t before after : List ℕ) (answer : ℕ) : Type 0 where
+  pub count : answer ≡ length t
+  pub bytes : after ≡ t ++ drop (length t) before
   pub fits : answer ≤ length after
+
+-- ---- numbers of at most four digits, which is what `text::put_decimal` can print: those of a line, and that of the last line
+
+abbrev pub SmallLine : (i n : ℕ) → Survey → Type 0
+SmallLine i n survey = (i < 10000) × (n < 10000) × (survey .short < 10000)
+
+abbrev pub SmallSlot : ActiveSlot → Type 0
+SmallSlot slot = available slot ≡ true → slotNumber slot < 10000

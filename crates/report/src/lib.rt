@@ -1,8 +1,8 @@
 // The status program's answer: the bytes that it reads go in, the bytes that it prints come out in a
-// lent buffer. Reading, judging and every printed byte are decided here; the program only moves
-// bytes. The definitions are in `specs/Status`, the laws in `specs/Laws` and `specs/Longer`. It rests
-// on `drive`, `reader`, `map`, `partition` and `text`, and below them on `cache`, `context`, `endian`
-// and `laws`.
+// lent buffer, and so do the lines that it says on standard error. Reading, judging and every printed
+// byte are decided here; the program only moves bytes. The definitions are in `specs/Status`, the
+// laws in `specs/Laws` and `specs/Longer`. It rests on `drive`, `reader`, `map`, `partition` and
+// `text`, and below them on `cache`, `context`, `endian` and `laws`.
 use drive::ActiveSlot;
 use partition::State;
 use partition::Survey;
@@ -12,13 +12,20 @@ ghost use Prim.Native.Nat.{_+_, _≤_};
 ghost use lib.ListN.{length, drop};
 ghost use Rattle.laws.specs.Below.{joinBelow};
 ghost use Rattle.drive.specs.Drive.{Whole};
-ghost use Rattle.report.specs.Status.{imageOf, numberAt, inputCells, readingOf, stateName, lineOf, hekLine, tableOf, refusedLine, Printed};
+ghost use Rattle.report.specs.Status.{imageOf, numberAt, inputCells, readingOf, stateName, lineOf, hekLine, tableOf, refusedLine, statusOf};
+ghost use Rattle.report.specs.Status.{failureLine, Printed, SmallLine, SmallSlot};
 ghost use Rattle.laws.specs.Put.{Put};
 
-// What the input is: a whole drive, or refused with its number.
+// What the input is: a whole drive, or refused with its number, a byte, which can always be printed.
 pub enum Reading {
     Drive,
-    Refused(u32),
+    Refused(u8),
+}
+
+// What the program could not do: read its input, or write its output.
+pub enum Failure {
+    Input,
+    Output,
 }
 
 // Writes a state's name.
@@ -36,7 +43,7 @@ fn put_name(out: &mut [u8], at: usize, state: State) -> usize
 
 // Writes a partition's line: number, cells, state, short pairs.
 fn put_line(out: &mut [u8], at: usize, i: u32, n: u16, survey: Survey) -> usize
-    requires { ⌜ at + 26 ≤ length (now out) ⌝ }
+    requires { ⌜ (at + 26 ≤ length (now out)) × SmallLine i n survey ⌝ }
     ensures { λ r. ⌜ Put at (lineOf i n survey) (now (out .entry)) (now (out .exit)) r × (r ≤ at + 26) ⌝ }
 {
     let state = survey.state;
@@ -53,7 +60,7 @@ fn put_line(out: &mut [u8], at: usize, i: u32, n: u16, survey: Survey) -> usize
 
 // Writes the last line: the active slot's partition if the HEK is available, else `none`.
 fn put_hek(out: &mut [u8], at: usize, slot: ActiveSlot) -> usize
-    requires { ⌜ at + 9 ≤ length (now out) ⌝ }
+    requires { ⌜ (at + 9 ≤ length (now out)) × SmallSlot slot ⌝ }
     ensures { λ r. ⌜ Put at (hekLine slot) (now (out .entry)) (now (out .exit)) r × (r ≤ at + 9) ⌝ }
 {
     if !drive::is_available(slot) {
@@ -66,7 +73,7 @@ fn put_hek(out: &mut [u8], at: usize, slot: ActiveSlot) -> usize
 }
 
 // Writes the line of a refusal.
-fn put_refused(out: &mut [u8], number: u32) -> usize
+fn put_refused(out: &mut [u8], number: u8) -> usize
     requires { ⌜ 13 ≤ length (now out) ⌝ }
     ensures { λ r. ⌜ Put 0 (refusedLine number) (now (out .entry)) (now (out .exit)) r ⌝ }
 {
@@ -149,10 +156,21 @@ fn put_drive(out: &mut [u8], input: &[u8]) -> usize
 // Everything that the status program prints for its input, in the front of the lent buffer, and how
 // many bytes that is. The rest of the buffer keeps its bytes.
 pub fn report_status(input: &[u8], out: &mut [u8; 512]) -> usize
-    ensures { λ r. ⌜ Printed (now (input .entry)) (now (out .entry)) (now (out .exit)) r ⌝ }
+    ensures { λ r. ⌜ Printed (statusOf (now (input .entry))) (now (out .entry)) (now (out .exit)) r ⌝ }
 {
     match read_input(input) {
         Reading::Refused(number) => put_refused(out, number),
         Reading::Drive => put_drive(out, input),
+    }
+}
+
+// What the status program says on standard error where it fails, and how many bytes that is. The
+// rest of the buffer keeps its bytes.
+pub fn report_failure(failure: Failure, out: &mut [u8; 64]) -> usize
+    ensures { λ r. ⌜ Printed (failureLine failure) (now (out .entry)) (now (out .exit)) r ⌝ }
+{
+    match failure {
+        Failure::Input => text::put(out, 0, b"status: standard input cannot be read\n"),
+        Failure::Output => text::put(out, 0, b"status: standard output cannot be written\n"),
     }
 }

@@ -1,10 +1,9 @@
 -- Text as bytes: an ASCII text by its characters' codes, and a number in decimal. Assumes nothing.
-use Prim.Native.Nat.{ℕ, _+_, _/_, _%_}
+use Prim.Native.Nat.{ℕ, zero, suc, _+_, _/_, _%_}
 use Prim.Native.String.{String, [] as end, _∷_ as _then_}
 use Prim.Native.Char.{code}
 use mathlib.Core.Bool.{cond}
-use mathlib.Core.List.{List, [], _∷_}
-use lib.ListN.{drop}
+use mathlib.Core.List.{List, [], _∷_, _++_}
 use lib.Dec.{ltb}
 
 -- the characters' codes
@@ -16,13 +15,19 @@ text (c then s) = code c ∷ text s
 abbrev pub digit : (v : ℕ) → ℕ
 digit v = v % 10 + 48
 
--- the four decimal digits of v, and how many of them are leading zeros
-abbrev pub digits : (v : ℕ) → List ℕ
-digits v = digit (v / 1000) ∷ digit (v / 100) ∷ digit (v / 10) ∷ digit v ∷ []
+-- the digits of v before its last, if there are any, then the last; no more than `most` digits
+abbrev pub digitsOf : (most v : ℕ) → List ℕ
+digitsOf zero v = []
+digitsOf (suc most) v = cond (ltb v 10) [] (digitsOf most (v / 10)) ++ (digit v ∷ [])
+
+-- v in decimal, without leading zeros; v has at most v + 1 digits
+unfoldable pub decimal : (v : ℕ) → List ℕ
+decimal v = digitsOf (suc v) v
+
+-- ---- how it is made, below 10,000: four digits, of which the leading zeros are left out
+
+abbrev pub four : (v : ℕ) → List ℕ
+four v = digit (v / 1000) ∷ digit (v / 100) ∷ digit (v / 10) ∷ digit v ∷ []
 
 abbrev pub zeros : (v : ℕ) → ℕ
 zeros v = cond (ltb v 10) 3 (cond (ltb v 100) 2 (cond (ltb v 1000) 1 0))
-
--- v, below 10,000, in decimal without leading zeros
-unfoldable pub decimal : (v : ℕ) → List ℕ
-decimal v = drop (zeros v) (digits v)

@@ -1,7 +1,7 @@
 // Text in a lent buffer, piece after piece: bytes as they are, and numbers in decimal. Bytes outside
 // the piece keep their values. The definitions are in `specs/Text`, and in `laws` `specs/Put`. It
 // rests on the kit's `bytes` and on `laws`.
-ghost use Prim.Native.Nat.{_+_, _≤_};
+ghost use Prim.Native.Nat.{_+_, _≤_, _<_};
 ghost use mathlib.Core.Path.{_≡_};
 ghost use lib.ListN.{length};
 ghost use Rattle.text.specs.Text.{digit, zeros, decimal};
@@ -22,7 +22,7 @@ fn digit_of(v: usize) -> u8
     (v % 10) as u8 + 48
 }
 
-// How many of the four decimal digits of `v` are leading zeros.
+// How many of the four decimal digits of `v`, below 10,000, are leading zeros.
 fn leading_zeros(v: usize) -> usize
     ensures { λ r. ⌜ (r ≡ zeros v) × (r ≤ 3) ⌝ }
 {
@@ -35,10 +35,10 @@ fn leading_zeros(v: usize) -> usize
     if v < 1000 { 1 } else { 0 }
 }
 
-// Writes the last four digits of `v`, without leading zeros, and answers the place past them: below
-// 10,000 that is the number in decimal.
+// Writes `v` in decimal, without leading zeros, and answers the place past it. A number of more than
+// four digits cannot be asked for, so none is printed with digits left out.
 pub fn put_decimal(out: &mut [u8], at: usize, v: usize) -> usize
-    requires { ⌜ at + 4 ≤ length (now out) ⌝ }
+    requires { ⌜ (at + 4 ≤ length (now out)) × (v < 10000) ⌝ }
     ensures { λ r. ⌜ Put at (decimal v) (now (out .entry)) (now (out .exit)) r × (r ≤ at + 4) ⌝ }
 {
     let digits = [

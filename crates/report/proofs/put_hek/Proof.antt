@@ -38,7 +38,10 @@ put-requires-2 : tie.Need-put-requires-2
 put-requires-2 c κs = search needs
 
 put-decimal-requires : tie.Need-put-decimal-requires
-put-decimal-requires c κs = search needs
+put-decimal-requires c κs =
+    let slot = c .before .before .before .before .before .before in
+    let small = slot .before .before .before .before .pre .1 (sym (slot .before .before .is-available .ensures) ∙ not-false _ (slot .before .if1 .left)) in
+    omega (arith, small)
 
 slice-aggregate-put-3 : tie.Need-slice-aggregate-put-3
 slice-aggregate-put-3 c = search needs

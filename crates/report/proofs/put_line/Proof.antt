@@ -35,7 +35,9 @@ put-requires-3 : tie.Need-put-requires-3
 put-requires-3 c κs = search needs
 
 put-decimal-requires-3 : tie.Need-put-decimal-requires-3
-put-decimal-requires-3 c κs = search needs
+put-decimal-requires-3 c κs =
+    let cells = c .before .before .before .before .before .before .before .before .before .before .before .before .before .before .before .before .before in
+    (search needs, omega (arith, cells .before .before .before .before .before .before .before .before .before .before .before .before .pre .1))
 
 slice-aggregate-put-4 : tie.Need-slice-aggregate-put-4
 slice-aggregate-put-4 c = search needs

@@ -10,7 +10,7 @@ use Rattle.map.specs.Laws.{map-header}
 use Rattle.reader.specs.declared.Fields.{Fields}
 use Rattle.laws.specs.Put.{Put, then, nothing, retext}
 use Rattle.report.specs.Status.{lineAt}
-use Rattle.report.specs.Laws.{line-is, table-is}
+use Rattle.report.specs.Laws.{line-is, table-is, small-line, small-slot}
 use Rattle.report.proofs.put_table.Statement.{statement}
 use Rattle.report.proofs.put_table.Tie as tie
 
@@ -55,9 +55,15 @@ survey-at-requires c κs =
 
 put-line-requires : tie.Need-put-line-requires Inv-loop μ-loop
 put-line-requires c κs =
-    let top = c .before .before .before .before .before in
-    let most = counted (top .before) .1 in
-    omega (arith, top .loop .inv .2 .same, top .before .before .before .put .ensures .same, top .before .before .before .put .ensures .is-next, top .before .before .before .before .before .before .before .before .before .before .before .pre .1)
+    let read = c .before .before .before in
+    let top = read .before .before in
+    let start = top .before .before .before .before .before .before .before .before .before .before .before in
+    let head = top .before .before .before .put .ensures in
+    let p = counted (top .before) .0 in
+    let most = counted (top .before) .1 in (
+      omega (arith, top .loop .inv .2 .same, head .same, head .is-next, start .pre .1),
+      small-line _ _ (start .pre .0 .good) _ (omega arith) _ _ (ap (λ (f : Fields). f .entry) (read .fields-of .ensures)) (c .before .survey-at .ensures),
+    )
 
 add-i : tie.Need-add-i Inv-loop μ-loop
 add-i c = search needs
@@ -79,8 +85,12 @@ active-in-requires c κs = search needs
 put-hek-requires : tie.Need-put-hek-requires Inv-loop μ-loop
 put-hek-requires c κs =
     let top = c .before .before .before in
-    let most = counted (top .before) .1 in
-    omega (arith, top .loop .inv .2 .same, top .before .before .before .put .ensures .same, top .before .before .before .put .ensures .is-next, top .before .before .before .before .before .before .before .before .before .before .before .pre .1)
+    let start = top .before .before .before .before .before .before .before .before .before .before .before in
+    let head = top .before .before .before .put .ensures in
+    let most = counted (top .before) .1 in (
+      omega (arith, top .loop .inv .2 .same, head .same, head .is-next, start .pre .1),
+      small-slot _ _ (start .pre .0 .good) _ (c .active-in .ensures),
+    )
 
 same-length : tie.Need-same-length Inv-loop μ-loop
 same-length c = search needs

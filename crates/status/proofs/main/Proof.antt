@@ -1,51 +1,63 @@
--- `status::main` meets its contract: the counts lie within the buffers. Assumes nothing.
+-- `status::main` meets its contract: the bytes that were read lie within the buffer. Assumes nothing.
+use Prim.Native.Nat.{_≤_}
+use mathlib.Core.Path.{subst}
 use native.Mathlib.Omega.{arith}
-use lib.ListN.{length-take}
+use lib.ListN.{length, length-take}
 use borrow.Author.Needs.{needs}
+use Rattle.status.specs.declared.Intake.{Intake}
+use Rattle.status.specs.Intake.{Within}
 use Rattle.status.proofs.main.Statement.{statement}
 use Rattle.status.proofs.main.Tie as tie
 
 large-buffer-requires : tie.Need-large-buffer-requires
 large-buffer-requires c κs = search needs
 
-slice-aggregate-read-full : tie.Need-slice-aggregate-read-full
-slice-aggregate-read-full c = search needs
+slice-aggregate-take-in : tie.Need-slice-aggregate-take-in
+slice-aggregate-take-in c = search needs
 
-read-full-requires : tie.Need-read-full-requires
-read-full-requires c κs = search needs
+take-in-requires : tie.Need-take-in-requires
+take-in-requires c κs = search needs
+
+enum-told : tie.Need-enum-told
+enum-told c = search needs
+
+tell-requires : tie.Need-tell-requires
+tell-requires c κs = search needs
+
+enum-known-count : tie.Need-enum-known-count
+enum-known-count c = search needs
+
+-- the bytes that were read lie in the buffer
+read : (c : tie.After-count) → c .count .given .0 .0 ≤ length (c .before .before .before .take-in .last .0)
+read c = let told = c .before .before .before .take-in in subst (λ (r : Intake). Within r (told .last .0)) (c .count .given .1) (told .ensures)
 
 array-share-prefix-input : tie.Need-array-share-prefix-input
-array-share-prefix-input c = search needs
+array-share-prefix-input c = read (c .before)
 
-slice-aggregate-report-status : tie.Need-slice-aggregate-report-status
-slice-aggregate-report-status c = search needs
+slice-aggregate-print-status : tie.Need-slice-aggregate-print-status
+slice-aggregate-print-status c = let r = read (c .before .before) in simp length-take (omega arith)
 
-report-status-requires : tie.Need-report-status-requires
-report-status-requires c κs = search needs
-
-array-share-prefix-out : tie.Need-array-share-prefix-out
-array-share-prefix-out c = c .report-status .ensures .fits
-
-slice-aggregate-write-all : tie.Need-slice-aggregate-write-all
-slice-aggregate-write-all c = simp length-take (omega (arith, c .before .report-status .ensures .fits))
-
-write-all-requires : tie.Need-write-all-requires
-write-all-requires c κs = search needs
+print-status-requires : tie.Need-print-status-requires
+print-status-requires c κs = search needs
 
 returns : tie.Need-returns
 returns c = search needs
+
+returns-2 : tie.Need-returns-2
+returns-2 c = search needs
 
 pub main-spec : {M : Type 1} → statement M
 main-spec =
     tie.close
     (tie.spec
     large-buffer-requires
-    slice-aggregate-read-full
-    read-full-requires
+    slice-aggregate-take-in
+    take-in-requires
+    enum-told
+    tell-requires
+    enum-known-count
     array-share-prefix-input
-    slice-aggregate-report-status
-    report-status-requires
-    array-share-prefix-out
-    slice-aggregate-write-all
-    write-all-requires
-    returns)
+    slice-aggregate-print-status
+    print-status-requires
+    returns
+    returns-2)

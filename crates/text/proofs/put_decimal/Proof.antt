@@ -38,7 +38,9 @@ returns : tie.Need-returns
 returns c =
     let done = c .before .before in
     let z = done .before .before .before .before in
-    put-digits _ _ _ _ _ _ (z .leading-zeros .ensures .0) (z .before .before .before .before .digit-of .ensures) (z .before .before .before .digit-of2 .ensures) (z .before .before .digit-of3 .ensures) (z .before .digit-of4 .ensures) (done .put .ensures)
+    let first = z .before .before .before .before in
+    put-digits _ _ _ _ _ _ (first .before .before .pre .1) (z .leading-zeros .ensures .0) (first .digit-of .ensures)
+    (z .before .before .before .digit-of2 .ensures) (z .before .before .digit-of3 .ensures) (z .before .digit-of4 .ensures) (done .put .ensures)
 
 pub put-decimal-spec : {M : Type 1} → statement M
 put-decimal-spec =

@@ -1,0 +1,39 @@
+-- `status::print_status` meets its contract: what is printed lies within its buffer. Assumes nothing.
+use native.Mathlib.Omega.{arith}
+use lib.ListN.{length-take}
+use borrow.Author.Needs.{needs}
+use Rattle.status.proofs.print_status.Statement.{statement}
+use Rattle.status.proofs.print_status.Tie as tie
+
+report-status-requires : tie.Need-report-status-requires
+report-status-requires c κs = search needs
+
+array-share-prefix-out : tie.Need-array-share-prefix-out
+array-share-prefix-out c = search needs
+
+slice-aggregate-write-all : tie.Need-slice-aggregate-write-all
+slice-aggregate-write-all c = simp length-take (omega (arith, c .before .report-status .ensures .fits))
+
+write-all-requires : tie.Need-write-all-requires
+write-all-requires c κs = search needs
+
+tell-requires : tie.Need-tell-requires
+tell-requires c κs = search needs
+
+returns : tie.Need-returns
+returns c = search needs
+
+returns-2 : tie.Need-returns-2
+returns-2 c = search needs
+
+pub print-status-spec : {M : Type 1} → statement M
+print-status-spec =
+    tie.close
+    (tie.spec
+    report-status-requires
+    array-share-prefix-out
+    slice-aggregate-write-all
+    write-all-requires
+    tell-requires
+    returns
+    returns-2)
