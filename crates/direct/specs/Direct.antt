@@ -1,23 +1,26 @@
 -- Document 01, "Direct commands": what a command on a word answers, and the cells that it leaves. Assumes nothing.
-use Prim.Native.Nat.{ℕ, _+_, _^_, _≤_, _<_}
-use mathlib.Core.Path.{_≡_}
+use Prim.Native.Nat.{ℕ, _+_, _^_}
 use mathlib.Core.Bool.{Bool, true, false, cond, not, _&&_, _||_}
 use mathlib.Core.List.{List, [], _∷_, _++_}
 use lib.Dec.{eqb, leb}
-use lib.ListN.{length, getD}
+use lib.ListN.{getD}
 use lib.Bits.{bitOr}
 use Rattle.laws.specs.Refusals.{firstOf}
 use Rattle.context.specs.State.{State, withCells, Outcome, outcome, refusing}
 use Rattle.map.specs.Map.{headerOf, entryOf, lifeCycle, zeroizable, secret}
-use Rattle.fuse.specs.Fuse.{pairOf, short, cellsIn, allOnes, burnWord}
+use Rattle.fuse.specs.Fuse.{pairOf, short, allOnes, burnWord}
 use Rattle.word.specs.declared.Role.{Role}
 use Rattle.word.specs.declared.Role.the-variants.{Data, Digest, Indicator}
 use Rattle.word.specs.declared.Lookup.{Lookup}
 use Rattle.word.specs.declared.Lookup.the-variants.{Word, Nothing}
 use Rattle.word.specs.Word.{wordAt}
-use Rattle.drive.specs.Drive.{Whole, driveTests, countedAt, slotInUse}
+use Rattle.drive.specs.declared.Check.{Check}
+use Rattle.drive.specs.declared.Check.the-variants.{Ready, Refused as NotReady}
+use Rattle.drive.specs.Drive.{driveTests, checkOf, countedAt, slotInUse}
 use Rattle.direct.specs.declared.Command.{Command}
 use Rattle.direct.specs.declared.Command.the-variants.{Read, Write, Zeroize}
+use Rattle.direct.specs.declared.Found.{Found}
+use Rattle.direct.specs.declared.Found.the-variants.{Word as FoundWord, Refused as Barred}
 use Rattle.direct.specs.declared.Answer.{Answer}
 use Rattle.direct.specs.declared.Answer.the-variants.{Word as Shown, Done, Withheld, Refused}
 
@@ -105,16 +108,13 @@ directBy found image marks command s = firstOf (refusing Refused s) (directTests
 unfoldable pub directOf : (image marks : List ℕ) → Command → State → Outcome Answer State
 directOf image marks command s = directBy (wordAt image (cellOf command)) image marks command s
 
--- ---- below the entry point
+-- ---- below the entry points
 
--- a command on the word of partition i that starts at its cell
-unfoldable pub onWord : (image marks : List ℕ) → Command → (i : ℕ) → Role → (wide : Bool) → State → Outcome Answer State
-onWord image marks command i role wide s =
-    firstOf (refusing Refused s) (wordTests (Word i role wide) command image s) (carriedOut (Word i role wide) command image marks s)
+-- what a command finds: the word that its cell starts, or the refusal 1, 2 or 7
+abbrev pub foundBy : Check → Lookup → Found
+foundBy (NotReady number) f = Barred number
+foundBy (Ready header) Nothing = Barred 7
+foundBy (Ready header) (Word i role wide) = FoundWord i role wide
 
--- what it asks for: a drive that was judged, and a word that lies in it
-pub record Named (image cells marks : List ℕ) (command : Command) (i : ℕ) (wide : Bool) : Type 0 where
-  pub whole : Whole image cells
-  pub marks-long : length marks ≡ length cells
-  pub partition : i < headerOf image .partitions
-  pub within : cellOf command + cellsIn wide ≤ length cells
+unfoldable pub foundOf : (image cells marks : List ℕ) (cell : ℕ) → Found
+foundOf image cells marks cell = foundBy (checkOf image cells marks) (wordAt image cell)

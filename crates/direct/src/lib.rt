@@ -1,21 +1,22 @@
 // Direct commands: READ, WRITE and ZEROIZE of one word. A command is judged, the lowest refusal
 // first, and then burns at most its word, by the burn that every other burn of the key block uses.
-// `run` is the entry point: it answers for any bytes and any lengths. The definitions are in
-// `specs/Direct`, the laws in `specs/Laws`. It rests on `drive`, `word`, `context`, `fuse` and what
-// lies below them.
+// `read`, `write` and `zeroize` carry out one each; `run` takes any, as document 01's enum, and no
+// crate here calls it. All four are entry points: they answer for any bytes and any lengths. So that
+// no secret word and no value that becomes one is left in a dead frame (the test `residue`), `write`
+// looks at both only after the last call that is not inlined, and on the way from C no value lies in
+// a command. The definitions are in `specs/Direct`, the laws in `specs/Laws`. It rests on `drive`,
+// `word`, `context`, `fuse` and what lies below them.
 use context::Context;
 use drive::Check;
 use word::Lookup;
 use word::Role;
 ghost use mathlib.Core.Path.{_≡_};
-ghost use Prim.Native.Nat.{_+_, _<_, _≤_};
+ghost use Prim.Native.Nat.{ℕ, _+_, _≤_};
+ghost use mathlib.Core.List.{List};
 ghost use lib.ListN.{length};
-ghost use Rattle.laws.specs.Refusals.{numberOf};
-ghost use Rattle.map.specs.Map.{headerOf};
 ghost use Rattle.fuse.specs.Fuse.{cellsIn};
-ghost use Rattle.drive.specs.Drive.{Whole};
 ghost use Rattle.context.specs.State.{state, outcome};
-ghost use Rattle.direct.specs.Direct.{cellOf, wordOf, isData, forbidden, clears, changesSlot, wordTests, cellsAfter, answerOf, Named, onWord, directOf};
+ghost use Rattle.direct.specs.Direct.{wordOf, isData, answerOf, foundOf, directOf};
 
 // A command and the word that it names, by its first cell in the whole array.
 pub enum Command {
@@ -32,15 +33,14 @@ pub enum Answer {
     Refused(u32),
 }
 
-// The cell that names a command's word.
-fn cell_of(command: Command) -> u32
-    ensures { λ r. ⌜ r ≡ cellOf command ⌝ }
-{
-    match command {
-        Command::Read { cell } => cell,
-        Command::Write { cell, value: _ } => cell,
-        Command::Zeroize { cell } => cell,
-    }
+// What a command finds: the word that its cell starts, or the refusal's number.
+enum Found {
+    Word {
+        partition: u32,
+        role: Role,
+        wide: bool,
+    },
+    Refused(u32),
 }
 
 // Whether a word holds data.
@@ -65,146 +65,144 @@ fn word_of(cells: &[u32], at: usize, wide: bool) -> u64
     fuse::pair(cells[at], 0)
 }
 
-// Whether a command may not touch the word, refusal 8.
-fn is_forbidden(
-    command: Command,
-    image: &[u8],
-    cells: &[u32],
-    i: u32,
-    role: Role,
-    wide: bool,
-) -> bool
-    requires { ⌜ Whole (now image) (now cells) × (i < headerOf (now image) .partitions) ⌝ }
-    ensures { λ r. ⌜ r ≡ forbidden command (now (image .entry)) (now (cells .entry)) i role wide ⌝ }
+// The word that starts at a cell: refusals 1, 2 and 7.
+fn find(image: &[u8], cells: &[u32], marks: &[u32], cell: u32) -> Found
+    ensures { λ r. ⌜ r ≡ foundOf (now (image .entry)) (now (cells .entry)) (now (marks .entry)) cell ⌝ }
 {
-    let x = map::read_entry(image, i);
-    match command {
-        Command::Read { cell: _ } => map::is_secret(x),
-        Command::Write { cell: _, value } => {
-            let kind = x.kind;
-            let is_counted = drive::counted_at(image, cells, i);
-            !is_data(role)
-                | (kind == map::LIFE_CYCLE)
-                | is_counted
-                | (!wide & (0x1_0000_0000 <= value))
-        }
-        Command::Zeroize { cell: _ } => !map::is_zeroizable(x),
+    match drive::check_drive(image, cells, marks) {
+        Check::Refused(number) => Found::Refused(number),
+        Check::Ready(_) => match word::word_at(image, cell) {
+            Lookup::Nothing => Found::Refused(7),
+            Lookup::Word {
+                partition,
+                role,
+                wide,
+            } => Found::Word {
+                partition: partition,
+                role: role,
+                wide: wide,
+            },
+        },
     }
 }
 
-// Whether a command's value lacks a set fuse of the word, refusal 9.
-fn would_clear(command: Command, cells: &[u32], wide: bool) -> bool
-    requires { ⌜ cellOf command + cellsIn wide ≤ length (now cells) ⌝ }
-    ensures { λ r. ⌜ r ≡ clears command (now (cells .entry)) wide ⌝ }
+// What WRITE answers of its word as it now stands, which is not looked at in a secret partition. It
+// does not depend on the command's cell, its value and the bound.
+fn written(cells: &[u32], at: usize, wide: bool, secret: bool) -> Answer
+    requires { ⌜ at + cellsIn wide ≤ length (now cells) ⌝ }
+    ensures { λ r. ⌜ r ≡ answerOf (Command.Write 0 0) secret 0 (wordOf wide at (now (cells .entry))) ⌝ }
 {
-    match command {
-        Command::Read { cell: _ } => false,
-        Command::Write { cell, value } => (word_of(cells, cell as usize, wide) | value) != value,
-        Command::Zeroize { cell: _ } => false,
+    if secret {
+        return Answer::Done;
     }
+    Answer::Word(word_of(cells, at, wide))
 }
 
-// Whether a command changes a slot while a key is held, refusal 10.
-fn changes_slot(command: Command, image: &[u8], i: u32, context: &Context) -> bool
-    ensures { λ r. ⌜ r ≡ changesSlot command (now (image .entry)) i (now (context .entry)) ⌝ }
+// What ZEROIZE answers of its word as it now stands, whatever the command's cell.
+fn zeroized(word: u64, secret: bool, bound: u64) -> Answer
+    ensures { λ r. ⌜ r ≡ answerOf (Command.Zeroize 0) secret bound word ⌝ }
 {
-    match command {
-        Command::Read { cell: _ } => false,
-        Command::Write { cell: _, value: _ } => drive::is_slot_in_use(image, i, context),
-        Command::Zeroize { cell: _ } => drive::is_slot_in_use(image, i, context),
+    if secret & (fuse::ones(word) < bound) {
+        return Answer::Withheld;
     }
+    Answer::Word(word)
 }
 
-// The lowest of the refusals 8 to 10 that applies to a command on a word, 0 where none does.
-fn word_refusal(
-    command: Command,
-    image: &[u8],
-    cells: &[u32],
-    context: &Context,
-    i: u32,
-    role: Role,
-    wide: bool,
-) -> u32
-    requires { ⌜ Whole (now image) (now cells) × (i < headerOf (now image) .partitions) × (cellOf command + cellsIn wide ≤ length (now cells)) ⌝ }
-    ensures { λ r. ⌜ r ≡ numberOf (wordTests (Lookup.Word i role wide) command (now (image .entry)) (state (now (cells .entry)) (now (context .entry)))) ⌝ }
+// READ of the word that starts at `cell`, which it answers. It is lent no context: whatever one there
+// is stays as it is.
+pub fn read(image: &[u8], cells: &[u32], marks: &[u32], cell: u32) -> Answer
+    ensures { λ r. ⌜ ((context : List ℕ) → outcome r (state (now (cells .entry)) context)
+        ≡ directOf (now (image .entry)) (now (marks .entry)) (Command.Read cell) (state (now (cells .entry)) context)) ⌝ }
 {
-    if is_forbidden(command, image, cells, i, role, wide) {
-        return 8;
-    }
-    if would_clear(command, cells, wide) {
-        return 9;
-    }
-    if changes_slot(command, image, i, context) {
-        return 10;
-    }
-    0
-}
-
-// Burns what a command burns into its word.
-fn burn(command: Command, cells: &mut [u32], marks: &[u32], wide: bool)
-    requires { ⌜ (cellOf command + cellsIn wide ≤ length (now cells)) × (length (now marks) ≡ length (now cells)) ⌝ }
-    ensures { λ _. ⌜ now (cells .exit) ≡ cellsAfter command wide (now (marks .entry)) (now (cells .entry)) ⌝ }
-{
-    match command {
-        Command::Read { cell: _ } => (),
-        Command::Write { cell, value } => fuse::burn_word(cells, marks, cell as usize, wide, value),
-        Command::Zeroize { cell } => fuse::burn_word(
-            cells,
-            marks,
-            cell as usize,
+    match find(image, cells, marks, cell) {
+        Found::Refused(number) => Answer::Refused(number),
+        Found::Word {
+            partition,
+            role: _,
             wide,
-            fuse::ALL_ONES,
-        ),
-    }
-}
-
-// What a command answers of its word as it now stands.
-fn answer_of(command: Command, secret: bool, bound: u64, word: u64) -> Answer
-    ensures { λ r. ⌜ r ≡ answerOf command secret bound word ⌝ }
-{
-    match command {
-        Command::Read { cell: _ } => Answer::Word(word),
-        Command::Write { cell: _, value: _ } => {
-            if secret {
-                Answer::Done
-            } else {
-                Answer::Word(word)
+        } => {
+            if map::is_secret(map::read_entry(image, partition)) {
+                return Answer::Refused(8);
             }
-        }
-        Command::Zeroize { cell: _ } => {
-            if secret & (fuse::ones(word) < bound) {
-                Answer::Withheld
-            } else {
-                Answer::Word(word)
-            }
+            Answer::Word(word_of(cells, cell as usize, wide))
         }
     }
 }
 
-// A command on the word that it names, of a drive that was judged.
-fn on_word(
-    command: Command,
+// WRITE of a value into the data word that starts at `cell`. Whether 10 applies is asked before 8 and
+// 9 are, since it takes a call, over which the word and the value would be kept on the stack.
+pub fn write(
     image: &[u8],
     cells: &mut [u32],
     marks: &[u32],
-    context: &mut Context,
-    i: u32,
-    role: Role,
-    wide: bool,
+    context: &Context,
+    cell: u32,
+    value: u64,
 ) -> Answer
-    requires { ⌜ Named (now image) (now cells) (now marks) command i wide ⌝ }
-    ensures { λ r. ⌜ outcome r (state (now (cells .exit)) (now (context .exit)))
-        ≡ onWord (now (image .entry)) (now (marks .entry)) command i role wide (state (now (cells .entry)) (now (context .entry))) ⌝ }
+    ensures { λ r. ⌜ outcome r (state (now (cells .exit)) (now (context .entry)))
+        ≡ directOf (now (image .entry)) (now (marks .entry)) (Command.Write cell value) (state (now (cells .entry)) (now (context .entry))) ⌝ }
 {
-    let number = word_refusal(command, image, cells, context, i, role, wide);
-    if number != 0 {
-        return Answer::Refused(number);
+    match find(image, cells, marks, cell) {
+        Found::Refused(number) => Answer::Refused(number),
+        Found::Word {
+            partition,
+            role,
+            wide,
+        } => {
+            let in_use = drive::is_slot_in_use(image, partition, context);
+            let is_counted = drive::counted_at(image, cells, partition);
+            let x = map::read_entry(image, partition);
+            if !is_data(role)
+                | (x.kind == map::LIFE_CYCLE)
+                | is_counted
+                | (!wide & (0x1_0000_0000 <= value))
+            {
+                return Answer::Refused(8);
+            }
+            if (word_of(cells, cell as usize, wide) | value) != value {
+                return Answer::Refused(9);
+            }
+            if in_use {
+                return Answer::Refused(10);
+            }
+            fuse::burn_word(cells, marks, cell as usize, wide, value);
+            written(cells, cell as usize, wide, map::is_secret(x))
+        }
     }
-    burn(command, cells, marks, wide);
-    let header = map::read_header(image);
-    let x = map::read_entry(image, i);
-    let word = word_of(cells, cell_of(command) as usize, wide);
-    answer_of(command, map::is_secret(x), header.bound as u64, word)
+}
+
+// ZEROIZE of the word that starts at `cell`: all ones are burned into it.
+pub fn zeroize(
+    image: &[u8],
+    cells: &mut [u32],
+    marks: &[u32],
+    context: &Context,
+    cell: u32,
+) -> Answer
+    ensures { λ r. ⌜ outcome r (state (now (cells .exit)) (now (context .entry)))
+        ≡ directOf (now (image .entry)) (now (marks .entry)) (Command.Zeroize cell) (state (now (cells .entry)) (now (context .entry))) ⌝ }
+{
+    match find(image, cells, marks, cell) {
+        Found::Refused(number) => Answer::Refused(number),
+        Found::Word {
+            partition,
+            role: _,
+            wide,
+        } => {
+            let header = map::read_header(image);
+            let x = map::read_entry(image, partition);
+            let at = cell as usize;
+            if !map::is_zeroizable(x) {
+                return Answer::Refused(8);
+            }
+            if drive::is_slot_in_use(image, partition, context) {
+                return Answer::Refused(10);
+            }
+            fuse::burn_word(cells, marks, at, wide, fuse::ALL_ONES);
+            let word = word_of(cells, at, wide);
+            zeroized(word, map::is_secret(x), header.bound as u64)
+        }
+    }
 }
 
 // A direct command: judged, then carried out unless it is refused.
@@ -218,15 +216,9 @@ pub fn run(
     ensures { λ r. ⌜ outcome r (state (now (cells .exit)) (now (context .exit)))
         ≡ directOf (now (image .entry)) (now (marks .entry)) command (state (now (cells .entry)) (now (context .entry))) ⌝ }
 {
-    match drive::check_drive(image, cells, marks) {
-        Check::Refused(number) => Answer::Refused(number),
-        Check::Ready(_) => match word::word_at(image, cell_of(command)) {
-            Lookup::Nothing => Answer::Refused(7),
-            Lookup::Word {
-                partition,
-                role,
-                wide,
-            } => on_word(command, image, cells, marks, context, partition, role, wide),
-        },
+    match command {
+        Command::Read { cell } => read(image, cells, marks, cell),
+        Command::Write { cell, value } => write(image, cells, marks, context, cell, value),
+        Command::Zeroize { cell } => zeroize(image, cells, marks, context, cell),
     }
 }

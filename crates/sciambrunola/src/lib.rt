@@ -23,20 +23,6 @@ ghost use Rattle.direct.specs.Direct.{directOf};
 ghost use Rattle.mailbox.specs.Mailbox.{lent, mailboxOf};
 ghost use Rattle.sciambrunola.specs.Numbers.{fieldsNumbers, listingNumbers, placeNumbers, answerNumbers, erasureNumbers, replyNumbers};
 
-// A direct command, its answer as numbers.
-fn run_flat(
-    image: &[u8],
-    cells: &mut [u32],
-    marks: &[u32],
-    context: &mut Context,
-    command: Command,
-) -> SciAnswer
-    ensures { λ r. ⌜ outcome r (state (now (cells .exit)) (now (context .exit)))
-        ≡ telling answerNumbers (directOf (now (image .entry)) (now (marks .entry)) command (state (now (cells .entry)) (now (context .entry)))) ⌝ }
-{
-    numbers::flat_answer(direct::run(image, cells, marks, context, command))
-}
-
 // The fields of a partition.
 #[no_mangle]
 pub extern "C" fn sci_partition(image: &[u8], partition: u32) -> SciFields
@@ -80,7 +66,7 @@ pub extern "C" fn sci_read(
     ensures { λ r. ⌜ outcome r (state (now (cells .exit)) (now (context .exit)))
         ≡ telling answerNumbers (directOf (now (image .entry)) (now (marks .entry)) (Command.Read cell) (state (now (cells .entry)) (now (context .entry)))) ⌝ }
 {
-    run_flat(image, cells, marks, context, Command::Read { cell: cell })
+    numbers::flat_answer(direct::read(image, cells, marks, cell))
 }
 
 // WRITE of a value into the word that starts at `cell`.
@@ -96,11 +82,7 @@ pub extern "C" fn sci_write(
     ensures { λ r. ⌜ outcome r (state (now (cells .exit)) (now (context .exit)))
         ≡ telling answerNumbers (directOf (now (image .entry)) (now (marks .entry)) (Command.Write cell value) (state (now (cells .entry)) (now (context .entry)))) ⌝ }
 {
-    let command = Command::Write {
-        cell: cell,
-        value: value,
-    };
-    run_flat(image, cells, marks, context, command)
+    numbers::flat_answer(direct::write(image, cells, marks, context, cell, value))
 }
 
 // ZEROIZE of the word that starts at `cell`.
@@ -115,13 +97,7 @@ pub extern "C" fn sci_zeroize(
     ensures { λ r. ⌜ outcome r (state (now (cells .exit)) (now (context .exit)))
         ≡ telling answerNumbers (directOf (now (image .entry)) (now (marks .entry)) (Command.Zeroize cell) (state (now (cells .entry)) (now (context .entry)))) ⌝ }
 {
-    run_flat(
-        image,
-        cells,
-        marks,
-        context,
-        Command::Zeroize { cell: cell },
-    )
+    numbers::flat_answer(direct::zeroize(image, cells, marks, context, cell))
 }
 
 // The erasure of a partition.

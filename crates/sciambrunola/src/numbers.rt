@@ -1,5 +1,6 @@
 // The answers as numbers, for C, since an enum does not cross: a struct for each kind of answer, and
-// the function that makes it. The numbers of each case are in `specs/Numbers`. It rests on the types of
+// the function that makes it. The numbers of each case are in `specs/Numbers`, but for those of the
+// states, which `states` writes into the lent arrays (`stateNumber`). It rests on the types of
 // `reader`, `states`, `cache`, `direct`, `erasure`, `mailbox` and `engine`.
 use cache::Place;
 use direct::Answer;
