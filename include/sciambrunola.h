@@ -3,7 +3,10 @@
  * of its partitions, direct commands on its fuses, the erasure of a partition,
  * the key cache of 16 places, and the mailbox. Link libsciambrunola.a: it is
  * built for x86-64 Linux (System V calling convention), position-independent,
- * with no heap, no C library and no undefined symbol.
+ * with no heap, no C library and no undefined symbol. Call it from ordinary
+ * threads and not from an interrupt handler: it uses the red zone below the stack
+ * pointer and the SSE registers. It has no unwind tables, so no exception and no
+ * cancellation may pass through a call of it, and a backtrace ends there.
  *
  * Any bytes, cells, marks, contexts, requests and lengths get an answer, and
  * every call ends. What the caller must see to, and all of it:
@@ -43,7 +46,7 @@
  *                       sci_erase leave it as it was, though the pointer is not
  *                       const there either
  *
- * The map, all numbers little-endian:
+ * The map, each u16 little-endian:
  *   header      four u16: partitions P (1 to 16), cells C (4 to 2,048), bound B
  *               (33 to 64), offset E of the entries (8 to 128)
  *   8 up to E   zeros
@@ -104,6 +107,18 @@
 
 #ifdef __cplusplus
 extern "C" {
+#endif
+
+/* The version of this header and of the archive that goes with it: it grows by one
+ * whenever something changes for a caller. docs/CHANGES.md says what. */
+#define SCI_VERSION 5
+
+/* Of a function whose answer has to be looked at: a warning where it is not, if the
+ * compiler has one. An erasure that ended is not yet an erased partition. */
+#ifdef __GNUC__
+#define SCI_ANSWER __attribute__((warn_unused_result))
+#else
+#define SCI_ANSWER
 #endif
 
 /* Places of the key cache. */
@@ -252,6 +267,7 @@ typedef struct {
  * there, and its answer tells how many there are. Changes nothing.
  * Refused: 1; 7 if there is no such partition.
  */
+SCI_ANSWER
 sci_fields sci_partition(const uint8_t *image, size_t image_bytes, uint32_t partition);
 
 /*
@@ -262,6 +278,7 @@ sci_fields sci_partition(const uint8_t *image, size_t image_bytes, uint32_t part
  * not depend on the marks, but marks of another count are refused too.
  * Refused: 1, 2; nothing is written.
  */
+SCI_ANSWER
 sci_listing sci_states(const uint8_t *image, size_t image_bytes,
                        const uint32_t *cells, size_t cell_count,
                        const uint32_t *marks, size_t mark_count,
@@ -272,6 +289,7 @@ sci_listing sci_states(const uint8_t *image, size_t image_bytes,
  * is no place past these, nothing is held there, and it is told as an empty one.
  * Changes nothing. It cannot be refused.
  */
+SCI_ANSWER
 sci_place sci_cache_place(const sci_context *context, uint32_t place);
 
 /*
@@ -279,6 +297,7 @@ sci_place sci_cache_place(const sci_context *context, uint32_t place);
  * has zeros above them. Changes nothing.
  * Refused: 1, 2, 7; 8 in a secret partition.
  */
+SCI_ANSWER
 sci_answer sci_read(const uint8_t *image, size_t image_bytes,
                     uint32_t *cells, size_t cell_count,
                     const uint32_t *marks, size_t mark_count,
@@ -294,6 +313,7 @@ sci_answer sci_read(const uint8_t *image, size_t image_bytes,
  * With a key held, 9 or 10 tells whether the value lacks a set fuse of a word of
  * a slot: who may WRITE to a slot can find its fuses, though no word is shown.
  */
+SCI_ANSWER
 sci_answer sci_write(const uint8_t *image, size_t image_bytes,
                      uint32_t *cells, size_t cell_count,
                      const uint32_t *marks, size_t mark_count,
@@ -306,6 +326,7 @@ sci_answer sci_write(const uint8_t *image, size_t image_bytes,
  * otherwise withheld.
  * Refused: 1, 2, 7; 8 in a partition that is not zeroizable; 10.
  */
+SCI_ANSWER
 sci_answer sci_zeroize(const uint8_t *image, size_t image_bytes,
                        uint32_t *cells, size_t cell_count,
                        const uint32_t *marks, size_t mark_count,
@@ -328,6 +349,7 @@ sci_answer sci_zeroize(const uint8_t *image, size_t image_bytes,
  * Refused: 1, 2; 7 if there is no such partition; 8 if it is not zeroizable;
  * 10; 15.
  */
+SCI_ANSWER
 sci_erasure sci_erase(const uint8_t *image, size_t image_bytes,
                       uint32_t *cells, size_t cell_count,
                       const uint32_t *marks, size_t mark_count,
@@ -345,6 +367,7 @@ sci_erasure sci_erase(const uint8_t *image, size_t image_bytes,
  * A cut at k = 0 is never refused with 15.
  * Refused: as sci_erase; the context stays as it was.
  */
+SCI_ANSWER
 sci_erasure sci_erase_cut(const uint8_t *image, size_t image_bytes,
                           uint32_t *cells, size_t cell_count,
                           const uint32_t *marks, size_t mark_count,
@@ -400,6 +423,7 @@ void sci_restart(sci_context *context);
  * their values.
  * Refused: 1 to 6; FERS also 7, 8, 10, 15; KLOD also 11, 12, 13; KUNL also 14.
  */
+SCI_ANSWER
 sci_reply sci_mailbox(const uint8_t *image, size_t image_bytes,
                       uint32_t *cells, size_t cell_count,
                       const uint32_t *marks, size_t mark_count,

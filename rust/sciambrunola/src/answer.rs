@@ -5,6 +5,7 @@ use crate::constants::NO_CELL;
 use crate::raw;
 
 /// What a direct command answers.
+#[must_use = "it may be refused"]
 #[derive(Clone, Copy, Debug, PartialEq, Eq)]
 pub enum Answer {
     /// The word, as it stands after the command.
@@ -19,6 +20,7 @@ pub enum Answer {
 }
 
 /// What an erasure answers.
+#[must_use = "an erasure that ended has erased the partition only if no pair is short"]
 #[derive(Clone, Copy, Debug, PartialEq, Eq)]
 pub enum Erasure {
     /// Ran to its end: every fuse of the partition that is not stuck is set.
@@ -49,6 +51,7 @@ pub enum Erasure {
 }
 
 /// What the encryption engine is to do.
+#[must_use = "the engine has to be given the order"]
 #[derive(Clone, Copy, Debug, PartialEq, Eq)]
 pub enum Order {
     /// Nothing.
@@ -75,6 +78,7 @@ pub enum Order {
 }
 
 /// What the mailbox answers.
+#[must_use = "a command may be refused, and the engine has to be given its order"]
 #[derive(Clone, Copy, Debug, PartialEq, Eq)]
 pub enum Reply {
     /// Refused with this number; nothing has changed, unless the number is 15

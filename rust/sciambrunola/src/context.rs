@@ -16,12 +16,14 @@ pub struct Context {
 
 impl Context {
     /// The context before the first call: nothing is held.
+    #[must_use]
     pub const fn new() -> Context {
         Context { words: [0; CONTEXT_WORDS] }
     }
 
     /// The tag that a place of the key cache holds. None if it is empty, or if there
     /// is no such place.
+    #[must_use]
     pub fn place(&self, i: usize) -> Option<u64> {
         let place = raw::cache_place(self, u32::try_from(i).ok()?);
         (place.kind != raw::PLACE_EMPTY).then_some(place.tag)

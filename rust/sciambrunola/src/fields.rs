@@ -3,6 +3,7 @@
 use crate::raw;
 
 /// What [`partition`](crate::partition) answers.
+#[must_use]
 #[derive(Clone, Copy, Debug, PartialEq, Eq)]
 pub enum Fields {
     /// The fields of the partition, and those of the map's header.

@@ -13,7 +13,9 @@
 //!
 //! The archive is built for x86-64 Linux (System V calling convention),
 //! position-independent, with no heap, no C library and no undefined symbol, so
-//! this package runs there and needs no more than `core`.
+//! this package runs there and needs no more than `core`. Call it from ordinary
+//! threads, not from interrupt handlers: it uses the red zone and the SSE registers.
+//! It has no unwind tables.
 #![no_std]
 #![deny(missing_docs)]
 #![deny(unsafe_code)]
@@ -29,7 +31,7 @@ mod states;
 pub use answer::{Answer, Erasure, Order, Reply};
 pub use constants::{code, flag, kind, refusal};
 pub use constants::{BLOCK_BYTES, CONTEXT_WORDS, LEAST_RESPONSE, PARTITIONS, PLACES};
-pub use constants::{NO_CELL, NO_SLOT};
+pub use constants::{NO_CELL, NO_SLOT, VERSION};
 pub use context::Context;
 pub use fields::Fields;
 pub use states::{Listing, State, States};

@@ -4,6 +4,7 @@ use crate::constants::PARTITIONS;
 use crate::raw;
 
 /// What [`states`](crate::states) answers.
+#[must_use]
 #[derive(Clone, Copy, Debug, PartialEq, Eq)]
 pub enum States {
     /// The state and the short pairs of every partition.
@@ -14,6 +15,7 @@ pub enum States {
 }
 
 /// The state of a partition.
+#[must_use]
 #[derive(Clone, Copy, Debug, PartialEq, Eq)]
 pub enum State {
     /// Counted as zeroized, no pair short.
@@ -27,6 +29,7 @@ pub enum State {
 }
 
 /// The state and the short pairs of each partition of a map, numbered from 0.
+#[must_use]
 #[derive(Clone, Copy, Debug, PartialEq, Eq)]
 pub struct Listing {
     partitions: u32,
@@ -38,6 +41,7 @@ pub struct Listing {
 
 impl State {
     /// The state's name in document 01.
+    #[must_use]
     pub fn name(self) -> &'static str {
         match self {
             State::Erased => "erased",
@@ -60,6 +64,7 @@ impl State {
 impl Listing {
     /// How many partitions the map has, 1 to 16.
     #[allow(clippy::len_without_is_empty)] // no map is without a partition
+    #[must_use]
     pub fn len(&self) -> u32 {
         self.partitions
     }
@@ -67,6 +72,7 @@ impl Listing {
     /// The state of the partition of this number, and how many of its pairs are
     /// short, those of digest and indicator included. None if there is no such
     /// partition.
+    #[must_use]
     pub fn get(&self, partition: u32) -> Option<(State, u32)> {
         let place = (partition < self.partitions).then_some(partition as usize)?;
         let (state, short_pairs) = (self.states.get(place)?, self.short_pairs.get(place)?);
