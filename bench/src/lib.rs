@@ -3,11 +3,8 @@
 #![forbid(unsafe_code)]
 #![deny(missing_docs)]
 
-pub mod equal;
 pub mod measure;
-pub mod numbers;
 pub mod plain;
-pub mod row;
 pub mod rows;
 pub mod sides;
 pub mod table;

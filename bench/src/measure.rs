@@ -1,6 +1,6 @@
 //! Times of the sides, taken in turn.
 
-use crate::row::Row;
+use crate::rows::Row;
 use crate::sides::{self, Side, LIBRARY};
 use std::time::{Duration, Instant};
 
@@ -16,8 +16,6 @@ pub struct Measure<'a> {
     /// What is measured.
     pub row: &'a Row,
     sides: [Timed; 3],
-    /// Every number that was answered is summed, so that no call can be left out.
-    pub sum: u32,
 }
 
 /// A side with its times, in nanoseconds a call, one for each round.
@@ -31,7 +29,7 @@ impl<'a> Measure<'a> {
     /// The sides at the start of a row, not yet timed.
     pub fn new(row: &'a Row) -> Measure<'a> {
         let timed = |side| Timed { side, calls: FIRST_CALLS, times: vec![] };
-        let mut measure = Measure { row, sides: sides::of(row).map(timed), sum: 0 };
+        let mut measure = Measure { row, sides: sides::of(row).map(timed) };
         for i in 0..measure.sides.len() {
             let took = measure.batch(i).max(1.0);
             measure.sides[i].calls = (BATCH.as_nanos() as f64 / took).ceil() as u32;
@@ -49,18 +47,21 @@ impl<'a> Measure<'a> {
         }
     }
 
-    /// The nanoseconds that a call of a side takes, over one batch.
+    /// The nanoseconds that a call of a side takes, over one batch. Every answer is
+    /// looked at, so that no call can be left out: none is a refusal.
     fn batch(&mut self, i: usize) -> f64 {
         let Timed { side, calls, .. } = &mut self.sides[i];
+        let mut refused = false;
         let began = Instant::now();
         for _ in 0..*calls {
             if self.row.put_back {
                 side.put_back();
             }
-            let said = side.answer(&self.row.call);
-            self.sum = said.into_iter().fold(self.sum, u32::wrapping_add);
+            refused |= side.answer(&self.row.call).refusal().is_some();
         }
-        began.elapsed().as_nanos() as f64 / f64::from(*calls)
+        let took = began.elapsed().as_nanos() as f64 / f64::from(*calls);
+        assert!(!refused, "{}: a call that is timed is refused", self.row.name);
+        took
     }
 
     /// The best time of a side, by its place in `sides::of`.

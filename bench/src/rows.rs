@@ -1,13 +1,10 @@
-//! The inputs of the measures.
+//! What is measured: calls, and what they find.
 
-use crate::row::{Call, Row};
 use checks::random::Random;
-use model::drive::Drive;
-use model::image::{entry, Image, SLOT_FLAGS};
-use model::lent::Lent;
-use model::mailbox::fields::Command;
-use model::mailbox::request::{Request, Values};
-use model::map::{HARDWARE, SOFTWARE, ZEROIZABLE};
+use model::{
+    entry, Call, Drive, Erase, Image, Lent, Mail, Request, Values, HARDWARE, SLOT_FLAGS, SOFTWARE,
+    ZEROIZABLE,
+};
 use sciambrunola::{BLOCK_BYTES, LEAST_RESPONSE, PARTITIONS};
 
 const CELLS: usize = 2048;
@@ -22,6 +19,19 @@ const HELD: usize = 8;
 const FIRST_TAG: u64 = 0x0123_4567_89AB_CD00;
 const LAST_TAG: u64 = FIRST_TAG + HELD as u64 - 1;
 
+/// A row of the table.
+pub struct Row {
+    /// What the table calls it.
+    pub name: String,
+    /// What the first call finds.
+    pub start: Lent,
+    /// The call. Made again it does the same work again, on what it left itself.
+    pub call: Call,
+    /// Whether that holds only if the cache is as it was at the start: then it is
+    /// put back before each call.
+    pub put_back: bool,
+}
+
 /// The states of 2,048 cells in 16 partitions, four of each state.
 pub fn states() -> Row {
     row("states, 16 partitions, 2,048 cells", every_state(), Call::States)
@@ -31,18 +41,14 @@ pub fn states() -> Row {
 pub fn all() -> Vec<Row> {
     let (pairs, singles) =
         (one_partition(HARDWARE, SLOT_FLAGS), one_partition(SOFTWARE, ZEROIZABLE));
-    let mut rows = vec![states(), map_check()];
+    // The fields of the last partition, for which the whole map is judged.
+    let last = Call::Partition(PARTITIONS as u32 - 1);
+    let mut rows = vec![states(), row("map check, 16 partitions, 256 bytes", every_state(), last)];
     rows.extend(erasures("erasure, 2,048 cells in pairs", pairs));
     rows.extend(erasures("erasure, 2,048 single cells", singles));
-    rows.extend(Command::ALL.map(|command| mailbox(command, "small drive", Drive::small())));
-    rows.extend(Command::ALL.map(|command| mailbox(command, "largest map", last_slot_active())));
+    rows.extend(Mail::ALL.map(|command| mailbox(command, "small drive", Drive::small())));
+    rows.extend(Mail::ALL.map(|command| mailbox(command, "largest map", last_slot_active())));
     rows
-}
-
-/// The fields of the last partition, for which the whole map is judged.
-fn map_check() -> Row {
-    let last = PARTITIONS as u32 - 1;
-    row("map check, 16 partitions, 256 bytes", every_state(), Call::Fields { partition: last })
 }
 
 /// The erasure of a drive's one partition: with no pair short, and with the digest
@@ -50,9 +56,9 @@ fn map_check() -> Row {
 fn erasures(name: &str, drive: Drive) -> [Row; 2] {
     let mut short = drive.clone();
     short.marks[CELLS - TAIL] = 0x1F;
-    let names = [format!("{name}, none short"), format!("{name}, digest short")];
-    let call = || Call::Erase { partition: 0 };
-    [row(&names[0], drive, call()), row(&names[1], short, call())]
+    [("none short", drive), ("digest short", short)].map(|(what, drive)| {
+        row(&format!("{name}, {what}"), drive, Call::Erase(Erase { partition: 0, cut: None }))
+    })
 }
 
 /// A call with an empty cache, on a drive that it leaves fit for the same again.
@@ -63,13 +69,13 @@ fn row(name: &str, drive: Drive, call: Call) -> Row {
 }
 
 /// A mailbox call for partition 0 that is carried out.
-fn mailbox(command: Command, drive_name: &str, drive: Drive) -> Row {
+fn mailbox(command: Mail, drive_name: &str, drive: Drive) -> Row {
     // KLOD names the tag after the last.
-    let tag = if command == Command::Klod { LAST_TAG + 1 } else { LAST_TAG };
+    let tag = if command == Mail::Klod { LAST_TAG + 1 } else { LAST_TAG };
     let values = Values { timeout: 1000, tag, mek: [0x6B; 64], ..Values::default() };
     let call = Call::Mailbox(Request::of(command, &values));
     let mut row = row(&format!("{}, {drive_name}", command.name()), drive, call);
-    if matches!(command, Command::Klod | Command::Kunl) {
+    if matches!(command, Mail::Klod | Mail::Kunl) {
         let places = row.start.cache.places.iter_mut().zip(FIRST_TAG..).take(HELD);
         places.for_each(|(place, tag)| *place = Some(tag));
         row.put_back = true;

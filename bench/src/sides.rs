@@ -1,14 +1,14 @@
-//! The sides that are compared: the library, the plain Rust and the model.
+//! The sides that are compared: the library, the plain Rust and the model; and that all of them do
+//! the same work on an input, before it is measured.
 
-mod by_library;
-mod by_model;
 mod by_plain;
 
-use crate::numbers::Said;
-use crate::row::{Call, Row};
-use by_library::Library;
-use by_model::Model;
-use by_plain::Plain;
+pub use by_plain::Plain;
+
+use crate::rows::Row;
+use checks::calls::difference;
+use checks::{context, proved};
+use model::{Cache, Call, KeyBlock, Lent, Model, Said};
 use sciambrunola::Context;
 
 /// A key block with what it is lent.
@@ -18,22 +18,7 @@ pub trait Side {
     /// Makes the cache what it was at the start.
     fn put_back(&mut self);
     /// What the calls have left.
-    fn left(&self) -> Left;
-}
-
-/// Everything that a call can change or tell.
-#[derive(Debug, PartialEq, Eq)]
-pub struct Left {
-    /// The fuse cells.
-    pub cells: Vec<u32>,
-    /// What is kept between calls, whole.
-    pub context: Context,
-    /// The engine block.
-    pub block: Vec<u8>,
-    /// The response buffer.
-    pub response: Vec<u8>,
-    /// The states and short pairs that were told last, each as text.
-    pub states: Vec<String>,
+    fn left(&self) -> Lent;
 }
 
 /// The place of the library among the sides.
@@ -45,11 +30,82 @@ pub const MODEL: usize = 2;
 
 /// The sides, each at the start of a row.
 pub fn of(row: &Row) -> [Box<dyn Side>; 3] {
-    let start = &row.start;
-    [Box::new(Library::new(start)), Box::new(Plain::new(start)), Box::new(Model::new(start))]
+    let (lent, start) = (row.start.clone(), row.start.cache.clone());
+    let context = context::of(&lent);
+    [
+        Box::new(Library { lent: lent.clone(), start: context.clone(), context }),
+        Box::new(WithCache { block: Plain, lent: lent.clone(), start: start.clone() }),
+        Box::new(WithCache { block: Model, lent, start }),
+    ]
 }
 
-/// A state and its short pairs as text: every side has the same names.
-fn text(told: impl std::fmt::Debug) -> String {
-    format!("{told:?}")
+/// Makes the call of a row twice on every side. Fails unless all of them answer the same and leave
+/// the same, the second time what they left the first time, and carry the call out.
+pub fn check_equal(row: &Row) {
+    let [library, plain, model] = of(row).map(|mut side| twice(row, side.as_mut()));
+    let (said, left) = &model[0];
+    assert_eq!(said.refusal(), None, "{}: the call is refused", row.name);
+    for (name, [first, second]) in
+        [("library", library), ("plain", plain), ("model", model.clone())]
+    {
+        for (answered, found) in [first, second] {
+            let found = difference((*said, left), (answered, &found));
+            assert_eq!(found, None, "{}: {name} and the model's first call", row.name);
+        }
+    }
+}
+
+/// What a side answers and leaves, the first time and the second.
+fn twice(row: &Row, side: &mut dyn Side) -> [(Said, Lent); 2] {
+    [(); 2].map(|()| {
+        if row.put_back {
+            side.put_back();
+        }
+        (side.answer(&row.call), side.left())
+    })
+}
+
+/// The proved key block, called through its safe Rust functions. What it keeps
+/// between calls stays in its context, so that no conversion is timed.
+struct Library {
+    lent: Lent,
+    context: Context,
+    start: Context,
+}
+
+impl Side for Library {
+    fn answer(&mut self, call: &Call) -> Said {
+        proved::answer(&mut self.lent, &mut self.context, call)
+    }
+
+    fn put_back(&mut self) {
+        self.context.clone_from(&self.start);
+    }
+
+    fn left(&self) -> Lent {
+        let mut lent = self.lent.clone();
+        context::take_back(&mut lent, &self.context);
+        lent
+    }
+}
+
+/// A key block that has its cache in what is lent.
+struct WithCache<B> {
+    block: B,
+    lent: Lent,
+    start: Cache,
+}
+
+impl<B: KeyBlock> Side for WithCache<B> {
+    fn answer(&mut self, call: &Call) -> Said {
+        self.block.answer(&mut self.lent, call)
+    }
+
+    fn put_back(&mut self) {
+        self.lent.cache.clone_from(&self.start);
+    }
+
+    fn left(&self) -> Lent {
+        self.lent.clone()
+    }
 }

@@ -30,14 +30,9 @@ the last pair before the indicator, so that the lowest short pair is looked for 
 const BEGIN: &str = "<!-- bench/TABLE.md -->\n";
 const END: &str = "<!-- end -->\n";
 
-/// Where the table is kept.
-pub fn path() -> PathBuf {
-    in_repository("bench/TABLE.md")
-}
-
-/// Where it is shown.
-pub fn readme() -> PathBuf {
-    in_repository("README.md")
+/// Where the table is kept, and where it is shown.
+pub fn paths() -> [PathBuf; 2] {
+    ["bench/TABLE.md", "README.md"].map(in_repository)
 }
 
 /// README.md in three parts: up to the table, the table, and what follows.
@@ -52,10 +47,11 @@ pub fn parts(readme: &str) -> Option<[&str; 3]> {
 /// # Panics
 /// If one of the files cannot be read or written, or README.md has no place for it.
 pub fn write(text: &str) {
-    let shown = fs::read_to_string(readme()).expect("README.md can be read");
+    let [kept, readme] = paths();
+    let shown = fs::read_to_string(&readme).expect("README.md can be read");
     let [before, _, after] = parts(&shown).expect("README.md has the table's comments");
-    fs::write(path(), text).expect("bench/TABLE.md can be written");
-    fs::write(readme(), [before, text, after].concat()).expect("README.md can be written");
+    fs::write(kept, text).expect("bench/TABLE.md can be written");
+    fs::write(readme, [before, text, after].concat()).expect("README.md can be written");
 }
 
 /// The table of these measures, with the stack of each call.

@@ -5,8 +5,8 @@ use std::fs;
 
 #[test]
 fn readme_shows_the_table() {
-    let readme = fs::read_to_string(table::readme()).expect("README.md can be read");
-    let kept = fs::read_to_string(table::path()).expect("bench/TABLE.md can be read");
+    let [kept, readme] =
+        table::paths().map(|path| fs::read_to_string(path).expect("the file can be read"));
     let [_, shown, _] = table::parts(&readme).expect("README.md has the table's comments");
     assert_eq!(shown, kept, "README.md shows another table than bench/TABLE.md");
 }

@@ -3,9 +3,8 @@
 //! each pair, which is `plain::states`.
 
 use bench::measure::Measure;
-use bench::row::Row;
-use bench::sides::PLAIN;
-use bench::{equal, rows};
+use bench::rows::{self, Row};
+use bench::sides::{check_equal, PLAIN};
 
 const MOST: f64 = 1.5;
 
@@ -19,7 +18,7 @@ const ATTEMPTS: usize = 8;
 #[cfg_attr(debug_assertions, ignore = "times are measured in an optimised build")]
 fn states_take_at_most_one_and_a_half_times_as_long_as_plain_rust() {
     let row = rows::states();
-    equal::check(&row);
+    check_equal(&row);
     let mut too_high = vec![];
     while too_high.len() < ATTEMPTS {
         let ratio = ratio_of(&row);

@@ -2,19 +2,7 @@
 
 use super::map::{Entry, Map};
 use super::Refusal;
-
-/// The state of a partition.
-#[derive(Clone, Copy, Debug, PartialEq, Eq)]
-pub enum State {
-    /// Counted as zeroized, no pair short.
-    Erased,
-    /// Counted as zeroized, some pair short.
-    Torn,
-    /// Not counted, every data cell zero.
-    Blank,
-    /// Not counted, some data fuse set.
-    Programmed,
-}
+use model::State;
 
 /// Writes the state and the short pairs of each partition to the front of the
 /// array, and says how many partitions there are: refusals 1 and 2.

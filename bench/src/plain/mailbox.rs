@@ -4,18 +4,7 @@ use super::erasure::erase_in;
 use super::fuses::active_slot;
 use super::map::Map;
 use super::{Cache, Drive, Refusal};
-
-/// What the engine is to do.
-pub enum Order {
-    /// Nothing.
-    None,
-    /// Clear, with the timeout.
-    Clear(u32),
-    /// Load into a place, with the timeout.
-    Load(u32, u32),
-    /// Unload from a place, with the timeout.
-    Unload(u32, u32),
-}
+use model::Order;
 
 /// What the mailbox is lent besides drive and cache.
 pub struct Buffers<'a> {
@@ -59,17 +48,17 @@ fn carry_out(
         b"CLKC" => {
             *cache = [None; 16];
             write_block(block, &[], 0);
-            Ok((respond(response, &[]), Order::Clear(u32_at(request, 8))))
+            Ok((respond(response, &[]), Order::Clear { timeout: u32_at(request, 8) }))
         }
         b"KLOD" => {
             let place = load(map, drive.cells, cache, tag_of(request))?;
             write_block(block, &request[20..], tag_of(request));
-            Ok((respond(response, &[place]), Order::Load(place, u32_at(request, 8))))
+            Ok((respond(response, &[place]), Order::Load { place, timeout: u32_at(request, 8) }))
         }
         b"KUNL" => {
             let place = unload(cache, tag_of(request))?;
             write_block(block, &[], tag_of(request));
-            Ok((respond(response, &[]), Order::Unload(place, u32_at(request, 8))))
+            Ok((respond(response, &[]), Order::Unload { place, timeout: u32_at(request, 8) }))
         }
         b"FERS" => {
             let erased = erase_in(map, drive, cache, u32_at(request, 8))?;

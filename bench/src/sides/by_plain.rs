@@ -1,79 +1,62 @@
-//! The plain Rust.
+//! The plain Rust as a key block.
 
-use super::{text, Left, Side};
-use crate::numbers::{accepted, erased, fields, refused, Said};
-use crate::plain::{self, Buffers, Cache, Drive, Order, State};
-use crate::row::Call;
-use checks::context;
-use model::lent::Lent;
+use crate::plain::{self, Buffers, Drive, Entry, Erased, Header};
+use model::{Call, Erase, Erasure, KeyBlock, Lent, Model, Reply, Said, State, PARTITIONS};
 
-/// The plain Rust with what it is lent.
-pub struct Plain {
-    lent: Lent,
-    cache: Cache,
-    start: Cache,
-    listed: [(State, u32); 16],
-    partitions: usize,
-}
+/// The plain Rust. It has no direct commands, no cuts, no restart and no call for
+/// a place: those are the model's own.
+pub struct Plain;
 
-impl Plain {
-    /// The plain Rust at a start.
-    pub fn new(start: &Lent) -> Plain {
-        let cache = start.cache.places;
-        let listed = [(State::Erased, 0); 16];
-        Plain { lent: start.clone(), start: cache, cache, listed, partitions: 0 }
-    }
-}
-
-impl Side for Plain {
-    fn answer(&mut self, call: &Call) -> Said {
-        let Plain { lent, cache, .. } = self;
-        let Lent { drive, response, block, .. } = lent;
+impl KeyBlock for Plain {
+    #[inline]
+    fn answer(&mut self, lent: &mut Lent, call: &Call) -> Said {
+        let Lent { drive, cache, response, block, .. } = lent;
         let mut drive = Drive { image: &drive.image, cells: &mut drive.cells, marks: &drive.marks };
         match call {
-            Call::Fields { partition } => fields(plain::partition(drive.image, *partition)),
-            Call::States => {
-                match plain::states(drive.image, drive.cells, drive.marks, &mut self.listed) {
-                    Ok(partitions) => {
-                        self.partitions = partitions as usize;
-                        [0, partitions, 0, 0, 0, 0, 0, 0]
+            Call::Partition(number) => Said::Fields(fields(drive.image, *number)),
+            Call::States => Said::Listing(list(lent)),
+            Call::Erase(Erase { partition, cut: None }) => {
+                Said::Erasure(match plain::erase(&mut drive, &cache.places, *partition) {
+                    Ok(Erased { short_pairs, first_short, burns }) => {
+                        Erasure::Erased { short_pairs, first_short, burns }
                     }
-                    Err(number) => refused(number, 0),
-                }
+                    Err(number) => Erasure::Refused { number, burns: (number == 15).into() },
+                })
             }
-            Call::Erase { partition } => match plain::erase(&mut drive, cache, *partition) {
-                Ok(told) => erased(told.short_pairs, told.first_short, told.burns),
-                Err(number) => refused(number, (number == 15).into()),
-            },
             Call::Mailbox(request) => {
                 let buffers = Buffers { request: &request.bytes, response, block };
-                match plain::mailbox(&mut drive, cache, request.code, buffers) {
-                    Ok((length, order)) => accepted(length, order_numbers(order)),
-                    Err(number) => refused(number, 0),
-                }
+                let told = plain::mailbox(&mut drive, &mut cache.places, request.code, buffers);
+                Said::Reply(match told {
+                    Ok((length, order)) => Reply::Accepted { length, order },
+                    Err(number) => Reply::Refused(number),
+                })
             }
+            _ => Model.answer(lent, call),
         }
-    }
-
-    fn put_back(&mut self) {
-        self.cache = self.start;
-    }
-
-    fn left(&self) -> Left {
-        let mut lent = self.lent.clone();
-        lent.cache.places = self.cache;
-        let context = context::of(&lent);
-        let Lent { drive, block, response, .. } = lent;
-        let states = self.listed[..self.partitions].iter().map(text).collect();
-        Left { cells: drive.cells, context, block, response, states }
     }
 }
 
-fn order_numbers(order: Order) -> [u32; 3] {
-    match order {
-        Order::None => [0, 0, 0],
-        Order::Clear(timeout) => [1, 0, timeout],
-        Order::Load(place, timeout) => [2, place, timeout],
-        Order::Unload(place, timeout) => [3, place, timeout],
+fn fields(image: &[u8], number: u32) -> [u32; 8] {
+    match plain::partition(image, number) {
+        Err(number) => [number, 0, 0, 0, 0, 0, 0, 0],
+        Ok((Header { partitions, cells, bound, .. }, Entry { first, length, kind, flags })) => {
+            let [partitions, cells, bound, first, length] =
+                [partitions, cells, bound, first, length].map(u32::from);
+            [0, partitions, cells, bound, first, length, kind.into(), flags.into()]
+        }
+    }
+}
+
+fn list(lent: &mut Lent) -> [u32; 2] {
+    let mut listed = [(State::Erased, 0); PARTITIONS];
+    let drive = &lent.drive;
+    match plain::states(&drive.image, &drive.cells, &drive.marks, &mut listed) {
+        Err(number) => [number, 0],
+        Ok(partitions) => {
+            for (i, (state, short_pairs)) in listed[..partitions as usize].iter().enumerate() {
+                (lent.states[i], lent.short_pairs[i]) = (*state as u32, *short_pairs);
+            }
+            [0, partitions]
+        }
     }
 }

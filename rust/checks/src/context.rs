@@ -1,8 +1,7 @@
 //! The archive's context of what the model keeps between calls, and back: the one
 //! place of the generated comparisons that knows the parts of a context.
 
-use model::cache::PLACES;
-use model::lent::Lent;
+use model::{Lent, PLACES};
 use sciambrunola::{Context, CONTEXT_WORDS};
 
 /// The kind of each place of the cache, then the tag of each. An empty place has kind
@@ -17,12 +16,8 @@ pub fn of(lent: &Lent) -> Context {
     Context::from_words(words)
 }
 
-/// Makes a call with the context of what is lent, and takes back what it leaves, of
-/// which every word is compared.
-pub fn with<T>(lent: &mut Lent, call: impl FnOnce(&mut Lent, &mut Context) -> T) -> T {
-    let mut context = of(lent);
-    let said = call(lent, &mut context);
+/// Takes back what a call left in a context, of which every word is compared.
+pub fn take_back(lent: &mut Lent, context: &Context) {
     lent.cache.places.iter_mut().enumerate().for_each(|(i, place)| *place = context.place(i));
-    assert_eq!(context, of(lent), "the words say something else than the places");
-    said
+    assert_eq!(*context, of(lent), "the words say something else than the places");
 }

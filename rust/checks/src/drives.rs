@@ -1,8 +1,7 @@
 //! Generated drives: fuses that make every state common, over a given map.
 
 use crate::random::Random;
-use model::drive::Drive;
-use model::map::{Header, Map};
+use model::{Drive, Header, Map};
 
 /// A drive over this image, with as many cells and marks as the image's C asks
 /// for. A bad image may ask for 65,535, so no more than 2,049 are made.
@@ -23,15 +22,14 @@ pub fn over(random: &mut Random, image: Vec<u8>) -> Drive {
     Drive { image, cells, marks }
 }
 
-/// The same with fuses that leave something to burn: half of the partitions
-/// hold little, and the marks let a word that is burned whole end at the bound,
-/// one below it, or anywhere.
+/// The same with fuses that leave something to burn: half of the partitions hold little, and the
+/// marks let a word that is burned whole end at the bound, one below it, or anywhere.
 pub fn to_burn(random: &mut Random, image: Vec<u8>) -> Drive {
     let mut drive = over(random, image);
     if let Some(map) = drive.map() {
         for entry in map.entries() {
             if random.one_in(2) {
-                drive.cells[entry.range()].iter_mut().for_each(|cell| *cell = sparse(random));
+                drive.cells[entry.range()].fill_with(|| sparse(random));
             }
         }
         drive.marks = marks_near(random, map.bound() as usize, &drive.cells);
@@ -55,8 +53,7 @@ pub fn damage_lengths(random: &mut Random, drive: &mut Drive) {
 
 /// A cell with few fuses set, if any.
 fn sparse(random: &mut Random) -> u32 {
-    let few = random.cell() & random.cell() & random.cell();
-    let one = 1 << random.below(32);
+    let (few, one) = (random.cell() & random.cell() & random.cell(), 1 << random.below(32));
     random.pick(&[0, 0, one, few])
 }
 
@@ -64,8 +61,7 @@ fn sparse(random: &mut Random) -> u32 {
 fn marks_near(random: &mut Random, bound: usize, cells: &[u32]) -> Vec<u32> {
     let mut marks = random.cells(cells.len());
     for (marks, cells) in marks.chunks_exact_mut(2).zip(cells.chunks_exact(2)) {
-        let any = random.below(65);
-        let spare = 64 - bound;
+        let (spare, any) = (64 - bound, random.below(65));
         let stuck = random.pick(&[0, spare, spare, spare + 1, spare + 1, any]);
         let unset = u64::from(!cells[0]) + (u64::from(!cells[1]) << 32);
         let chosen = some_ones(random, stuck, unset);
@@ -75,10 +71,10 @@ fn marks_near(random: &mut Random, bound: usize, cells: &[u32]) -> Vec<u32> {
     marks
 }
 
-/// So many of the ones of a number, or all if it has fewer.
+/// So many of the ones of a number, anywhere in it, or all if it has fewer.
 fn some_ones(random: &mut Random, count: usize, of: u64) -> u64 {
-    let start = random.below(64) as u32;
-    let bits = (0..64).map(|step| 1_u64.rotate_left(start + step));
+    let (start, odd) = (random.below(64), 2 * random.below(32) + 1);
+    let bits = (0..64).map(|step| 1 << ((start + odd * step) % 64));
     bits.filter(|bit| of & bit != 0).take(count).sum()
 }
 
@@ -93,7 +89,7 @@ fn fill(random: &mut Random, bound: usize, data: usize, cells: &mut [u32]) {
             5 | 6 => random.pick(&[0, bound - 1, bound]),
             _ => random.below(65),
         };
-        set_ones(random, ones.min(64), pair);
+        set_ones(random, ones, pair);
     }
     let pair = 2 * random.below(cells.len() / 2);
     let cell = random.below(cells.len());
@@ -111,14 +107,8 @@ fn fill(random: &mut Random, bound: usize, data: usize, cells: &mut [u32]) {
     }
 }
 
-/// Makes a pair hold this many ones, anywhere in it. Of ones and zeros the fewer
-/// are drawn: the last of many would take long to be found.
+/// Makes a pair hold this many ones, anywhere in it.
 fn set_ones(random: &mut Random, ones: usize, pair: &mut [u32]) {
-    let mut drawn: u64 = 0;
-    while (drawn.count_ones() as usize) < ones.min(64 - ones) {
-        drawn |= 1 << random.below(64);
-    }
-    let fuses = if ones > 32 { !drawn } else { drawn };
-    pair[0] = fuses as u32;
-    pair[1] = (fuses >> 32) as u32;
+    let fuses = some_ones(random, ones, u64::MAX);
+    (pair[0], pair[1]) = (fuses as u32, (fuses >> 32) as u32);
 }

@@ -1,98 +1,176 @@
-//! Document 01, "Erasing a partition": copies of the model's erasure with one
-//! fault each, and a faulty mailbox and restart, for the tests of the tests.
+//! Copies of the model with one fault each, for the tests of the tests: one for each thing that a
+//! comparison looks at, and for each clause of demand 3 one that breaks it. That the proofs refuse
+//! faults of the key block itself is shown by the edits in `crates/*/must-fail`.
 
-mod of_calls;
-mod of_cuts;
-mod of_histories;
-mod of_responses;
+use crate::layout::Layout;
+use model::{Answer, Call, Command, Cut, Erase, Erasure, KeyBlock, Lent, Model, Reply, Said};
+use std::ops::Range;
 
-use model::cache::Cache;
-use model::drive::Drive;
-use model::erasure::{self, applying, order, Erase, Erasure};
-use model::fuse;
-use model::lent::Lent;
-use model::mailbox::request::Request;
-use model::mailbox::Reply;
-use model::map::{Map, Part, Word};
-use model::partition::Partition;
-use model::{refusal, restart};
+/// Faults by how their difference from the model is told.
+pub const OF_COMPARISONS: [&str; 13] = [
+    "the answer: the model says Answer(",
+    "the answer: the model says Erasure(",
+    "the answer: the model says Fields(",
+    "the answer: the model says Listing(",
+    "the answer: the model says Place(",
+    "the answer: the model says Reply(",
+    "cell 0: ",
+    "place 15: ",
+    "block byte 127: ",
+    "response byte 7: ",
+    "state 0: ",
+    "short pairs 15: ",
+    "the model leaves ",
+];
 
-/// An erasure: it answers, and changes what it is lent.
-pub type Erasing = fn(&mut Lent, Erase) -> Erasure;
-/// The same for the mailbox.
-pub type Mailbox = fn(&mut Lent, &Request) -> Reply;
+/// Faults that break demand 3.
+pub const OF_HISTORIES: [&str; 16] = [
+    "numbers in 8 bits",
+    "numbers in 16 bits",
+    "a cut at the indicator burns data",
+    "a cut does nothing",
+    "a cut past the end answers that it was cut",
+    "k burns counted in a cut at k",
+    "a fuse behind the partition burned",
+    "a fuse of the partition cleared",
+    "the digest left out",
+    "no burn counted once a cell is burned",
+    "no such partition or not zeroizable: accepted",
+    "an erasure that is refused burns",
+    "a byte of the response not written",
+    "response buffer cleared to its end",
+    "a restart burns fuses",
+    "a key held after an erasure",
+];
 
-pub use of_calls::ALL as OF_CALLS;
-pub use of_responses::ALL as OF_RESPONSES;
+/// The model with the fault of this name; without one for any other name.
+pub struct Faulty(pub &'static str);
 
-/// The erasures that break demand 3, and what is wrong with them.
-pub fn of_histories() -> impl Iterator<Item = (&'static str, Erasing)> {
-    of_histories::ALL.into_iter().chain(of_cuts::ALL)
-}
-
-/// The erasure without a fault.
-pub fn none(lent: &mut Lent, erase: Erase) -> Erasure {
-    let (erasure, after) = erasure::erase(lent, erase);
-    *lent = after;
-    erasure
-}
-
-/// A restart that clears a fuse of each cell besides.
-pub fn restart_clears(lent: &mut Lent) {
-    *lent = restart::restart(lent);
-    lent.drive.cells.iter_mut().for_each(|cell| *cell &= !1);
-}
-
-/// The words of a partition with their first cells.
-type Words = Vec<(usize, Word)>;
-/// A burn of a value into a word.
-type Burn = fn(&mut Drive, usize, Word, u64);
-
-fn burn(drive: &mut Drive, first: usize, word: Word, value: u64) {
-    fuse::burn_word(&mut drive.cells, &drive.marks, first, word.size, value);
-}
-
-/// The erasure with other burns, over words that are chosen from those in the
-/// right order. A number below 15 refuses it as it should.
-fn run(
-    lent: &mut Lent,
-    erase: Erase,
-    burn: Burn,
-    choose: impl Fn(&Map, &[u32], Words) -> Words,
-) -> Erasure {
-    if refusal::lowest(&applying(lent, erase)).map_or(false, |number| number < 15) {
-        return none(lent, erase);
+impl KeyBlock for Faulty {
+    fn answer(&mut self, lent: &mut Lent, call: &Call) -> Said {
+        let before = lent.clone();
+        let said = Model.answer(lent, &self.asked(call));
+        let faulty = match (call, said) {
+            (Call::Erase(Erase { partition, cut }), Said::Erasure(erasure)) => {
+                let range = Layout::of(&before.drive, *partition).map(|layout| layout.range);
+                let range = range.unwrap_or(0..0);
+                let late = cut.is_some();
+                self.erased(erasure, range, late, &before, lent).map(Said::Erasure)
+            }
+            (_, Said::Reply(Reply::Accepted { length, .. })) => self.replied(length, &before, lent),
+            _ => self.others(said, lent),
+        };
+        faulty.unwrap_or(said)
     }
-    let map = lent.drive.map().expect("it is not refused");
-    let words = order(&map, erase.partition as usize);
-    let words = choose(&map, &lent.drive.cells, words);
-    for (k, (first, word)) in words.iter().enumerate() {
-        let cut = erase.cut.filter(|cut| cut.k as usize == k);
-        burn(&mut lent.drive, *first, *word, cut.map_or(u64::MAX, |cut| cut.mask));
-        let burns = k as u32 + 1;
-        if cut.is_some() {
-            lent.cache = Cache::default();
-            return Erasure::Cut { burns };
-        }
-        if word.part == Part::Indicator && !whole(&map, lent, erase).counted_as_zeroized() {
-            return Erasure::Refused { number: 15, burns };
+}
+
+impl Faulty {
+    /// The call with its numbers in fewer bits, or as it is.
+    fn asked(&self, call: &Call) -> Call {
+        let bits = match self.0 {
+            "numbers in 8 bits" => 0xFF,
+            "numbers in 16 bits" => 0xFFFF,
+            _ => return call.clone(),
+        };
+        match call.clone() {
+            Call::Partition(number) => Call::Partition(number & bits),
+            Call::Place(number) => Call::Place(number & bits),
+            Call::Direct(Command::Read { cell }) => {
+                Call::Direct(Command::Read { cell: cell & bits })
+            }
+            Call::Erase(Erase { partition, cut }) => {
+                let cut = cut.map(|cut| Cut { k: cut.k & bits, ..cut });
+                Call::Erase(Erase { partition: partition & bits, cut })
+            }
+            other => other,
         }
     }
-    answer(&map, lent, erase, words.len())
+
+    /// What is said of an erasure, none if it is right; what it left is changed.
+    fn erased(
+        &self,
+        right: Erasure,
+        Range { start, end }: Range<usize>,
+        late: bool,
+        before: &Lent,
+        lent: &mut Lent,
+    ) -> Option<Erasure> {
+        use Erasure::{Cut, Erased, Refused};
+        let (cells, before) = (&mut lent.drive.cells, &before.drive.cells);
+        match (self.0, right) {
+            ("a cut at the indicator burns data", Cut { burns: 1 }) => cells[start] |= 2,
+            ("a cut does nothing", Cut { .. }) => cells.clone_from(before),
+            ("k burns counted in a cut at k", Cut { burns }) => {
+                return Some(Cut { burns: burns - 1 })
+            }
+            ("a cut past the end answers that it was cut", Erased { burns, .. }) if late => {
+                return Some(Cut { burns });
+            }
+            ("a fuse behind the partition burned", Erased { .. }) => set(&mut cells[end..]),
+            ("a fuse of the partition cleared", Erased { .. }) => cells[start] &= !1,
+            ("the digest left out", Erased { .. }) => {
+                cells[end - 4..end - 2].copy_from_slice(&before[end - 4..end - 2]);
+            }
+            ("no burn counted once a cell is burned", Erased { short_pairs, first_short, .. }) => {
+                let none = Erased { short_pairs, first_short, burns: 0 };
+                return (before[start] == u32::MAX).then_some(none);
+            }
+            ("no such partition or not zeroizable: accepted", Refused { number: 7 | 8, .. }) => {
+                return Some(Erased { short_pairs: 0, first_short: None, burns: 0 });
+            }
+            ("an erasure that is refused burns" | "cell 0: ", Refused { .. }) => set(cells),
+            ("the answer: the model says Erasure(", Erased { first_short: Some(0), .. }) => {
+                return Some(Cut { burns: 0 });
+            }
+            ("a key held after an erasure" | "place 15: ", Erased { .. }) => {
+                lent.cache.places[15] = Some(0);
+            }
+            _ => {}
+        }
+        None
+    }
+
+    /// The same for the mailbox, where a command was carried out.
+    fn replied(&self, length: usize, before: &Lent, lent: &mut Lent) -> Option<Said> {
+        match self.0 {
+            "the answer: the model says Reply(" => return Some(Said::Reply(Reply::Refused(99))),
+            "block byte 127: " => lent.block[127] ^= 1,
+            // The last byte of fips_status, which is 0 in every response.
+            "a byte of the response not written" | "response byte 7: " => {
+                lent.response[7] = before.response[7];
+            }
+            "response buffer cleared to its end" => lent.response[length..].fill(0),
+            _ => {}
+        }
+        None
+    }
+
+    /// The same for the calls that only read, and for the restart.
+    fn others(&self, right: Said, lent: &mut Lent) -> Option<Said> {
+        match (self.0, right) {
+            ("the answer: the model says Answer(", Said::Answer(Answer::Withheld)) => {
+                return Some(Said::Answer(Answer::Done));
+            }
+            ("the answer: the model says Fields(", Said::Fields([7, ..])) => {
+                return Some(Said::Fields([7, 2, 0, 0, 0, 0, 0, 0]));
+            }
+            ("the answer: the model says Listing(", Said::Listing([2, _])) => {
+                return Some(Said::Listing([2, 2]));
+            }
+            ("the answer: the model says Place(", Said::Place([1, 0])) => {
+                return Some(Said::Place([0, 0]));
+            }
+            ("state 0: ", Said::Listing([1 | 2, _])) => lent.states[0] ^= 1,
+            ("short pairs 15: ", Said::Listing([0, 1..=15])) => lent.short_pairs[15] ^= 1,
+            ("the model leaves ", Said::Nothing) => set(&mut lent.drive.marks),
+            ("a restart burns fuses", Said::Nothing) => set(&mut lent.drive.cells),
+            _ => {}
+        }
+        None
+    }
 }
 
-/// The partition as it stands.
-fn whole<'a>(map: &Map, lent: &'a Lent, erase: Erase) -> Partition<'a> {
-    Partition::of(map, erase.partition as usize, &lent.drive.cells)
-}
-
-fn answer(map: &Map, lent: &Lent, erase: Erase, burns: usize) -> Erasure {
-    let whole = whole(map, lent, erase);
-    let first_short = whole.lowest_short_pair().map(|cell| cell as u32);
-    Erasure::Erased { short_pairs: whole.short_pairs() as u32, first_short, burns: burns as u32 }
-}
-
-fn short(map: &Map, cells: &[u32], first: usize) -> bool {
-    let pair = first / 2 * 2;
-    fuse::short([cells[pair], cells[pair + 1]], map.bound())
+/// Sets a fuse of each cell, or a mark.
+fn set(cells: &mut [u32]) {
+    cells.iter_mut().for_each(|cell| *cell |= 1);
 }

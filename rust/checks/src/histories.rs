@@ -1,32 +1,27 @@
-//! Demand 3: lists of attempts to erase one partition, and of restarts.
+//! Demand 3: lists of attempts to erase one partition, and of restarts, which are generated.
 //!
-//! Document 01, "Erasing a partition", says what an attempt is and what holds
-//! after each. The clauses are checked on the values that a key block gives and
-//! leaves, not by the model; that every call is the model's is checked besides.
+//! Document 01, "Erasing a partition", says what an attempt is and what holds after each. The clauses
+//! are checked on the values that a key block gives and leaves, not by the model; that every call is
+//! the model's is checked besides.
 
 mod clauses;
-mod generated;
 mod play;
-mod sights;
-mod tally;
 
 pub use clauses::names;
-pub use play::{all_hold, broken_clauses};
-pub use tally::HistoryTally;
+pub use play::{all_hold, broken_clauses, possible};
 
-use crate::calls::Call;
-use model::drive::Drive;
-use model::mailbox::request::Request;
+use crate::calls::{commands, requests};
+use crate::layout::Layout;
+use crate::random::Random;
+use crate::{drives, maps};
+use model::{Call, Drive, Erase, Lent};
 
 /// "The list starts from an empty cache and any cells and marks. Map, marks and
 /// partition number stay the same".
 #[derive(Clone, Debug)]
 pub struct History {
-    /// The drive at the start.
     pub start: Drive,
-    /// The partition that the attempts are on.
     pub partition: u32,
-    /// The attempts and restarts, in their order.
     pub attempts: Vec<Attempt>,
 }
 
@@ -34,22 +29,86 @@ pub struct History {
 /// refused by a number up to 6", or a restart.
 #[derive(Clone, Debug)]
 pub struct Attempt {
-    /// The call.
     pub call: Call,
-    /// The engine block that FERS is lent; no other call has one.
-    pub block: Vec<u8>,
-    /// The response buffer that FERS is lent; no other call has one.
-    pub response: Vec<u8>,
+    /// The engine block and the response buffer; only FERS needs them.
+    pub buffers: (Vec<u8>, Vec<u8>),
 }
 
-impl Attempt {
-    /// An attempt by the library's call, or a restart.
-    pub fn without_buffers(call: Call) -> Attempt {
-        Attempt { call, block: vec![], response: vec![] }
-    }
+const SEED: u64 = 0x5EED_0003_0059_0015;
+const MOST_ATTEMPTS: usize = 12;
 
-    /// An attempt by FERS with this engine block and response buffer.
-    pub fn fers(request: Request, (block, response): (Vec<u8>, Vec<u8>)) -> Attempt {
-        Attempt { call: Call::Mailbox(request), block, response }
+impl History {
+    /// A history that is made again by its number alone.
+    pub fn numbered(number: usize) -> History {
+        let mut random = Random::numbered(SEED, number);
+        let mut start = drive(&mut random);
+        let partition = commands::partition(&mut random, &start);
+        // The partition's last pair is freed of marks in one history of three, so that
+        // erasures which run to their end are as common as those refused with 15.
+        if let (Some(layout), true) = (Layout::of(&start, partition), random.one_in(3)) {
+            start.marks[layout.indicator()].fill(0);
+        }
+        let count = random.between(1, MOST_ATTEMPTS);
+        let attempts = (0..count).map(|_| attempt(&mut random, &start, partition)).collect();
+        History { start, partition, attempts }
     }
+}
+
+/// Mostly a drive of a few cells. Some are large, or have a bad map or wrong
+/// lengths; some have no stuck fuse, or any.
+fn drive(random: &mut Random) -> Drive {
+    let way = random.below(200);
+    let image = match way {
+        0 => maps::largest(random),
+        1..=3 => maps::good(random),
+        _ => maps::compact(random),
+    };
+    let damaged = (4..=13).contains(&way);
+    let bytes = if damaged { maps::damaged(random, image) } else { image.bytes() };
+    let mut drive = drives::to_burn(random, bytes);
+    match way {
+        14..=19 => drives::damage_lengths(random, &mut drive),
+        20..=59 => drive.marks.fill(0),
+        60..=79 => drive.marks = random.cells(drive.marks.len()),
+        80..=84 => drive.marks.fill(u32::MAX),
+        _ => {}
+    }
+    drive
+}
+
+fn attempt(random: &mut Random, drive: &Drive, partition: u32) -> Attempt {
+    let call = match random.weighted(&[4, 8, 4, 3, 3]) {
+        0 => Call::Erase(Erase { partition, cut: None }),
+        1 => {
+            let cut = Some(commands::cut_of(random, drive, partition));
+            Call::Erase(Erase { partition, cut })
+        }
+        2 => return right_fers(random, partition),
+        3 => return refused_fers(random, drive, partition),
+        _ => Call::Restart,
+    };
+    Attempt { call, buffers: Default::default() }
+}
+
+/// "FERS naming it"
+fn right_fers(random: &mut Random, partition: u32) -> Attempt {
+    let call = Call::Mailbox(requests::fers(partition));
+    Attempt { call, buffers: requests::buffers(random) }
+}
+
+/// "FERS refused by a number up to 6", which may name any partition. One that
+/// turns out to have nothing wrong names the history's own.
+fn refused_fers(random: &mut Random, drive: &Drive, partition: u32) -> Attempt {
+    let other = commands::partition(random, drive);
+    let named = random.pick(&[partition, other]);
+    let call = Call::Mailbox(requests::spoiled_fers(random, named));
+    let (mut block, mut response) = requests::buffers(random);
+    if random.one_in(3) {
+        requests::damage_buffers(random, &mut block, &mut response);
+    }
+    let lent = Lent { drive: drive.clone(), block, response, ..Lent::default() };
+    if call.applying(&lent).iter().all(|refusal| refusal.number() > 6) {
+        return right_fers(random, partition);
+    }
+    Attempt { call, buffers: (lent.block, lent.response) }
 }

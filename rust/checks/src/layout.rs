@@ -1,11 +1,9 @@
 //! A partition as its map lays it out, and what its cells count for.
 //!
-//! Of the model only the map is used, its rules and its fields, and nothing that
-//! burns or counts: what is found with a layout is found whatever the model says
-//! of fuses.
+//! Of the model only the map is used, its rules and its fields, and nothing that burns or counts:
+//! what is found with a layout is found whatever the model says of fuses.
 
-use model::drive::Drive;
-use model::map::{Map, SOFTWARE};
+use model::{Drive, Entry, Map, SOFTWARE};
 use std::iter;
 use std::ops::Range;
 
@@ -21,17 +19,25 @@ pub struct Layout {
 }
 
 impl Layout {
-    /// None with "a bad map, cells or marks not C long, or no such partition".
-    pub fn of(drive: &Drive, partition: u32) -> Option<Layout> {
-        let map = Map::read(&drive.image)?;
-        let entry = map.entries().get(partition as usize)?;
-        let layout = Layout {
+    /// Those of all partitions; none with "a bad map, cells or marks not C long".
+    pub fn all(drive: &Drive) -> Vec<Layout> {
+        let whole = |map: &Map| [drive.cells.len(), drive.marks.len()] == [map.cells(); 2];
+        let map = match Map::read(&drive.image).filter(whole) {
+            Some(map) => map,
+            None => return vec![],
+        };
+        let layout = |entry: &Entry| Layout {
             range: entry.range(),
             zeroizable: entry.zeroizable(),
             word_cells: if entry.kind == SOFTWARE { 1 } else { 2 },
             bound: map.bound() as u32,
         };
-        ([drive.cells.len(), drive.marks.len()] == [map.cells(); 2]).then_some(layout)
+        map.entries().iter().map(layout).collect()
+    }
+
+    /// None also with "no such partition".
+    pub fn of(drive: &Drive, partition: u32) -> Option<Layout> {
+        Layout::all(drive).into_iter().nth(partition as usize)
     }
 
     /// The cells of the indicator.

@@ -1,8 +1,7 @@
 //! Generated maps: good ones, and good ones with one thing damaged.
 
 use crate::random::Random;
-use model::image::{entry, Image, SLOT_FLAGS};
-use model::map::{Entry, HARDWARE, LIFE_CYCLE, SECRET, SOFTWARE, ZEROIZABLE};
+use model::{entry, Entry, Image, HARDWARE, LIFE_CYCLE, SECRET, SLOT_FLAGS, SOFTWARE, ZEROIZABLE};
 
 const MOST_CELLS: usize = 2048;
 
@@ -27,61 +26,58 @@ const EDGES: [u16; 16] = [0, 1, 2, 3, 4, 5, 6, 7, 32, 33, 64, 65, 2048, 2049, 0x
 
 /// A map that keeps every rule.
 pub fn good(random: &mut Random) -> Image {
-    let count = random.between(1, 16);
-    good_within(random, count, MOST_CELLS)
+    within(random, (1, 16), |count| MOST_CELLS / count)
 }
 
-/// A map of a few partitions in 64 cells at most.
+/// A map of a few partitions in some 64 cells.
 pub fn small(random: &mut Random) -> Image {
-    let count = random.between(2, 6);
-    good_within(random, count, 64)
+    within(random, (2, 6), |count| 64 / count)
 }
 
 /// A map of any number of partitions, each of 16 cells at most.
 pub fn compact(random: &mut Random) -> Image {
-    let count = random.between(1, 16);
-    good_within(random, count, 16 * count)
+    within(random, (1, 16), |_| 16)
 }
 
-/// A map of so many partitions that keeps every rule; each has room for ten
-/// cells or more in its share of the most cells.
-fn good_within(random: &mut Random, count: usize, most_cells: usize) -> Image {
-    let share = most_cells / count / 2 * 2;
+/// A map of so many partitions that keeps every rule; each has room for its share
+/// of cells, which is ten or more.
+fn within(random: &mut Random, (least, most): (usize, usize), share: fn(usize) -> usize) -> Image {
+    let count = random.between(least, most);
+    let (share, mut free) = (share(count) / 2 * 2, 0);
     let mut entries = Vec::new();
-    let mut free = 0;
     for _ in 0..count {
         let made = good_entry(random, free, share);
         free = made.range().end;
         entries.push(made);
     }
-    // No entry took more than its share, so the end is at most the most cells.
     let behind = if random.one_in(2) { 0 } else { random.below(6) };
-    Image {
-        cells: (free + behind).min(most_cells) as u16,
-        bound: good_bound(random),
-        entries_at: good_offset(random),
-        entries,
-    }
+    let cells = (free + behind).min(MOST_CELLS) as u16;
+    let (bound, entries_at) = good_header(random);
+    Image { cells, bound, entries_at, entries }
 }
 
 /// The largest map: 256 bytes, 16 partitions, 2,048 cells and no gap.
 pub fn largest(random: &mut Random) -> Image {
-    let n = MOST_CELLS / 16;
+    filled(random, 16)
+}
+
+/// The longest partition: all 2,048 cells.
+pub fn longest(random: &mut Random) -> Image {
+    filled(random, 1)
+}
+
+/// So many partitions of one length in all cells.
+fn filled(random: &mut Random, count: usize) -> Image {
+    let n = MOST_CELLS / count;
     let made = |number: usize, (kind, flags)| entry((number * n) as u16, n as u16, kind, flags);
-    let entries = (0..16).map(|number| made(number, random.pick(&GOOD_KINDS))).collect();
-    let bound = good_bound(random);
+    let entries = (0..count).map(|number| made(number, random.pick(&GOOD_KINDS))).collect();
+    let (bound, _) = good_header(random);
     Image { cells: MOST_CELLS as u16, bound, entries_at: 128, entries }
 }
 
-/// The bytes of a good map with something damaged. The damage may turn out to
-/// break no rule: the model says.
-pub fn damaged(random: &mut Random) -> Vec<u8> {
-    let image = good(random);
-    damaged_from(random, image)
-}
-
-/// The bytes of this map with something damaged.
-pub fn damaged_from(random: &mut Random, mut image: Image) -> Vec<u8> {
+/// The bytes of this map with something damaged. The damage may turn out to break
+/// no rule: the model says.
+pub fn damaged(random: &mut Random, mut image: Image) -> Vec<u8> {
     if random.one_in(2) {
         damage_field(random, &mut image);
         return image.bytes();
@@ -105,14 +101,10 @@ fn good_entry(random: &mut Random, free: usize, share: usize) -> Entry {
     entry((free + gap) as u16, n as u16, kind, flags)
 }
 
-fn good_bound(random: &mut Random) -> u16 {
-    let any = random.between(33, 64) as u16;
-    random.pick(&[33, 60, 60, 64, any])
-}
-
-fn good_offset(random: &mut Random) -> u16 {
-    let any = random.between(8, 128) as u16;
-    random.pick(&[8, 8, 9, 128, any])
+/// A good bound and a good offset of the entries.
+fn good_header(random: &mut Random) -> (u16, u16) {
+    let (bound, offset) = (random.between(33, 64) as u16, random.between(8, 128) as u16);
+    (random.pick(&[33, 60, 60, 64, bound]), random.pick(&[8, 8, 9, 128, offset]))
 }
 
 fn damage_field(random: &mut Random, image: &mut Image) {
@@ -135,13 +127,14 @@ fn damage_field(random: &mut Random, image: &mut Image) {
     }
 }
 
-/// Damages one byte of an image, or its end.
+/// Damages one byte of an image, or its end, or puts any bytes in its place.
 pub fn damage_bytes(random: &mut Random, bytes: &mut Vec<u8>) {
-    let at = random.below(bytes.len());
-    match random.below(6) {
-        0..=2 => bytes[at] ^= 1 << random.below(8),
-        3 => bytes[at] = random.byte(),
+    let (at, any) = (random.below(bytes.len().max(1)), random.below(300));
+    match random.below(7) {
+        0..=2 if !bytes.is_empty() => bytes[at] ^= 1 << random.below(8),
+        3 if !bytes.is_empty() => bytes[at] = random.byte(),
         4 => bytes.push(random.pick(&[0, 1, 0xFF])),
+        5 => *bytes = random.bytes(any),
         _ => bytes.truncate(at),
     }
 }

@@ -11,8 +11,7 @@ impl Random {
         Random { state: seed }
     }
 
-    /// Numbers for one of many generated things: seed and number give the same
-    /// ones again.
+    /// Numbers for one of many generated things: seed and number give the same ones again.
     pub fn numbered(seed: u64, number: usize) -> Random {
         Random::new(seed ^ (number as u64).wrapping_mul(0xD134_2543_DE82_EF95))
     }
@@ -47,14 +46,21 @@ impl Random {
 
     /// The place of the part that a number below the sum of the parts falls into.
     pub fn weighted(&mut self, parts: &[usize]) -> usize {
-        let mut left = self.below(parts.iter().sum());
-        for (place, part) in parts.iter().enumerate() {
-            if left < *part {
-                return place;
-            }
-            left -= part;
-        }
-        unreachable!("the number is below the sum of the parts")
+        let number = self.below(parts.iter().sum());
+        let ends = parts.iter().scan(0, |end, part| {
+            *end += part;
+            Some(*end)
+        });
+        ends.take_while(|end| *end <= number).count()
+    }
+
+    /// A number below the count, one around it, or one that is another in fewer bits.
+    pub fn around(&mut self, count: usize) -> u32 {
+        let (inside, end, any) = (self.below(count.max(1)) as u32, count as u32, self.cell());
+        let near = [inside, inside | 1, end.saturating_sub(1), end, end + 1, end + 2];
+        let far = [inside + 0x100, inside + 0x1_0000, inside + 0x8000_0000, u32::MAX, any];
+        let from = if self.one_in(2) { &near[..] } else { &far };
+        self.pick(from)
     }
 
     pub fn byte(&mut self) -> u8 {

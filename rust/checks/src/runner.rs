@@ -1,8 +1,8 @@
-//! Runs of the built programs.
+//! Runs of the built programs, and of the tools that look at the archive from outside.
 
 use std::io::{ErrorKind, Read, Write};
 use std::path::{Path, PathBuf};
-use std::process::{Child, ChildStdin, Command, Stdio};
+use std::process::{ChildStdin, Command, Stdio};
 use std::sync::mpsc;
 use std::thread;
 use std::time::Duration;
@@ -13,41 +13,32 @@ const LIMIT: Duration = Duration::from_secs(20);
 /// Long enough for the program to read what is there before more arrives.
 const PAUSE: Duration = Duration::from_millis(5);
 
-/// Runs the status program on this standard input and gives what it printed.
-///
-/// Fails the test if the program is missing, does not end, ends with a status
-/// other than 0 or prints to standard error.
-pub fn status(input: &[u8]) -> Vec<u8> {
-    status_in_pieces(std::iter::once(input))
-}
-
-/// The same where the input arrives in pieces, with a pause between them, so
-/// that the program meets reads that bring less than it asked for.
-pub fn status_in_pieces<'a>(pieces: impl Iterator<Item = &'a [u8]>) -> Vec<u8> {
-    run(&program("status"), &pieces.collect::<Vec<_>>())
-}
-
-/// The path of a built program.
-fn program(name: &str) -> PathBuf {
-    let path = in_repository("target/bin").join(name);
-    assert!(
-        path.is_file(),
-        "the program target/bin/{name} is missing: build it before running these tests (looked for {})",
-        path.display()
-    );
-    path
-}
-
 /// A path that is given from the repository's root.
 pub fn in_repository(path: &str) -> PathBuf {
     Path::new(env!("CARGO_MANIFEST_DIR")).join("../..").join(path)
 }
 
-/// Runs any program on the pieces of its standard input, as above. Input and
-/// output go through threads of their own, so that neither a full pipe nor a
-/// program that stops reading early can block the run.
+/// The path of the proved archive.
+pub fn archive() -> PathBuf {
+    in_repository("target/staticlib/libsciambrunola.a")
+}
+
+/// Runs the status program on its standard input. Pieces arrive with a pause between them, so that
+/// the program meets reads that bring less than it asked for.
+pub fn status(pieces: &[&[u8]]) -> Vec<u8> {
+    let program = in_repository("target/bin/status");
+    assert!(program.is_file(), "{} is missing: build it before these tests", program.display());
+    run(&program, pieces)
+}
+
+/// Runs any program on the pieces of its standard input, and gives what it printed. Fails the test
+/// if the program does not start, does not end, ends with a status other than 0 or prints to
+/// standard error. Input and output go through threads of their own, so that neither a full pipe
+/// nor a program that stops reading early can block the run.
 pub fn run(path: &Path, input: &[&[u8]]) -> Vec<u8> {
-    let mut child = start(path);
+    let mut command = Command::new(path);
+    command.stdin(Stdio::piped()).stdout(Stdio::piped()).stderr(Stdio::piped());
+    let mut child = command.spawn().unwrap_or_else(|error| panic!("{}: {error}", path.display()));
     let stdin = child.stdin.take().expect("standard input is a pipe");
     let (sender, receiver) = mpsc::channel();
     let mut streams = (child.stdout.take(), child.stderr.take());
@@ -66,12 +57,6 @@ pub fn run(path: &Path, input: &[&[u8]]) -> Vec<u8> {
     assert!(exit.success(), "{exit} on {input:02X?}");
     assert!(errors.is_empty(), "printed to standard error: {}", String::from_utf8_lossy(&errors));
     output
-}
-
-fn start(path: &Path) -> Child {
-    let mut command = Command::new(path);
-    command.stdin(Stdio::piped()).stdout(Stdio::piped()).stderr(Stdio::piped());
-    command.spawn().unwrap_or_else(|error| panic!("{} does not start: {error}", path.display()))
 }
 
 /// Writes the input piece by piece, then closes the pipe. A program that
@@ -93,4 +78,24 @@ fn read_all(stream: &mut Option<impl Read>) -> Vec<u8> {
     let stream = stream.as_mut().expect("the stream is a pipe");
     stream.read_to_end(&mut bytes).expect("the stream can be read");
     bytes
+}
+
+/// Compiles a C program of the repository, with every warning an error, and links
+/// it with the archive. Gives its path in that directory.
+pub fn compiled(source: &str, directory: &Path) -> PathBuf {
+    let program = directory.join(source.replace(['/', '.'], "_"));
+    let mut compiler = Command::new("cc");
+    compiler.args(["-std=c99", "-Wall", "-Wextra", "-Wpedantic", "-Werror", "-I"]);
+    compiler.args([in_repository("include"), in_repository(source), archive(), "-o".into()]);
+    printed(compiler.arg(&program));
+    program
+}
+
+/// Runs a tool and gives what it printed. Fails the test if it does not start,
+/// or ends with a status other than 0.
+pub fn printed(tool: &mut Command) -> String {
+    let output = tool.output().unwrap_or_else(|error| panic!("{tool:?} does not start: {error}"));
+    let errors = String::from_utf8_lossy(&output.stderr);
+    assert!(output.status.success(), "{tool:?}: {}\n{errors}", output.status);
+    String::from_utf8(output.stdout).expect("the tool prints text")
 }

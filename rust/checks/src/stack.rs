@@ -1,15 +1,14 @@
-//! The stack that each command of the key block uses, in bytes, the safe Rust
-//! call and everything under it included: every command carried out, and
-//! mailbox commands refused; and of the calls that only read. It says something
-//! in an optimised build alone.
+//! The stack that each command of the key block uses, in bytes, the safe Rust call and everything
+//! under it included: every command carried out, and mailbox commands refused; and of the calls
+//! that only read. It says something in an optimised build alone.
 
 use crate::context;
 use crate::painted::depth;
-use crate::small::Small;
-use model::lent::Lent;
-use model::mailbox::fields::Command;
-use model::mailbox::request::{Request, Values};
-use sciambrunola::{Answer, Context, Erasure, Fields, Reply, States};
+use crate::small::{self, SLOT};
+use model::mailbox::fields::Command as Mail;
+use model::{Drive, Lent, Request, Values};
+use sciambrunola::{direct, erase, erase_cut, mailbox, partition, restart, states};
+use sciambrunola::{Answer, Command, Context, Erasure, Fields, Reply, States};
 
 /// A software word of the small drive, which READ and WRITE may touch, and a
 /// slot word, which ZEROIZE may.
@@ -21,25 +20,41 @@ pub type Used = (&'static str, usize);
 
 /// The stack of every call.
 pub fn of_every_call() -> Vec<Used> {
-    use sciambrunola::Command::{Read, Write, Zeroize};
+    static STARTED: Context = Context::new();
+    let fields = carried_out(None, |Drive { image, .. }, _| {
+        matches!(partition(image, SLOT), Fields::Partition { .. })
+    });
+    let states = carried_out(None, |Drive { image, cells, marks }, _| {
+        matches!(states(image, cells, marks), States::Listed(_))
+    });
+    let erasure = carried_out(None, |Drive { image, cells, marks }, context| {
+        matches!(erase(image, cells, marks, context, SLOT), Erasure::Ended { .. })
+    });
+    let cut_erasure = carried_out(None, |Drive { image, cells, marks }, context| {
+        matches!(erase_cut(image, cells, marks, context, SLOT, 2, 1), Erasure::Cut { .. })
+    });
+    let restart = carried_out(Some(1), |_, context| {
+        restart(context);
+        *context == STARTED
+    });
     vec![
-        ("fields", of_fields()),
-        ("states", of_states()),
-        ("place", of_place()),
-        ("READ", of_direct(Read { cell: SOFTWARE_WORD })),
-        ("WRITE", of_direct(Write { cell: SOFTWARE_WORD, value: 5 })),
-        ("ZEROIZE", of_direct(Zeroize { cell: SLOT_WORD })),
-        ("erasure", of_erasure(Small::erase)),
-        ("cut erasure", of_erasure(|small| small.erase_cut(2, 1))),
-        ("restart", of_restart()),
-        ("CLKC", of_mailbox(Command::Clkc, 1, true)),
-        ("KLOD", of_mailbox(Command::Klod, 2, true)),
-        ("KLOD refused", of_mailbox(Command::Klod, 1, false)),
-        ("KUNL", of_mailbox(Command::Kunl, 1, true)),
-        ("KUNL refused", of_mailbox(Command::Kunl, 2, false)),
-        ("FERS", of_mailbox(Command::Fers, None, true)),
-        ("FERS refused", of_mailbox(Command::Fers, 1, false)),
-        ("FSTA", of_mailbox(Command::Fsta, 1, true)),
+        ("fields", fields),
+        ("states", states),
+        ("place", carried_out(Some(1), |_, context| context.place(9) == Some(1))),
+        ("READ", of_direct(Command::Read { cell: SOFTWARE_WORD })),
+        ("WRITE", of_direct(Command::Write { cell: SOFTWARE_WORD, value: 5 })),
+        ("ZEROIZE", of_direct(Command::Zeroize { cell: SLOT_WORD })),
+        ("erasure", erasure),
+        ("cut erasure", cut_erasure),
+        ("restart", restart),
+        ("CLKC", of_mailbox(Mail::Clkc, Some(1), true)),
+        ("KLOD", of_mailbox(Mail::Klod, Some(2), true)),
+        ("KLOD refused", of_mailbox(Mail::Klod, Some(1), false)),
+        ("KUNL", of_mailbox(Mail::Kunl, Some(1), true)),
+        ("KUNL refused", of_mailbox(Mail::Kunl, Some(2), false)),
+        ("FERS", of_mailbox(Mail::Fers, None, true)),
+        ("FERS refused", of_mailbox(Mail::Fers, Some(1), false)),
+        ("FSTA", of_mailbox(Mail::Fsta, Some(1), true)),
     ]
 }
 
@@ -49,59 +64,43 @@ pub fn listed(used: &[Used]) -> String {
     each.join(", ")
 }
 
-/// The small drive with this tag held in place 9, or with an empty cache.
-fn small(held: Option<u64>) -> Small {
-    let mut lent = Lent::default();
-    lent.cache.places[9] = held;
-    Small::new(context::of(&lent))
-}
-
-/// The stack of the slot's fields, which are told.
-fn of_fields() -> usize {
-    measured(None, true, |small| matches!(small.fields(), Fields::Partition { .. }))
-}
-
-/// The stack of the states, which are listed.
-fn of_states() -> usize {
-    measured(None, true, |small| matches!(small.states(), States::Listed(_)))
-}
-
-/// The stack of a place of the cache, which is held.
-fn of_place() -> usize {
-    measured(Some(1), true, |small| small.context.place(9) == Some(1))
-}
-
 /// The stack of a direct command, which is carried out.
-fn of_direct(command: sciambrunola::Command) -> usize {
-    let accepted = |small: &mut Small| !matches!(small.direct(command), Answer::Refused(_));
-    measured(None, true, accepted)
-}
-
-/// The stack of an erasure of the slot, which is not refused.
-fn of_erasure(call: impl Fn(&mut Small) -> Erasure) -> usize {
-    measured(None, true, |small| !matches!(call(small), Erasure::Refused { .. }))
-}
-
-/// The stack of a restart with a key held; a restart always ends as a drive starts.
-fn of_restart() -> usize {
-    static STARTED: Context = Context::new();
-    let emptied = |small: &mut Small| {
-        sciambrunola::restart(&mut small.context);
-        small.context == STARTED
-    };
-    measured(Some(1), true, emptied)
+fn of_direct(command: Command) -> usize {
+    carried_out(None, |Drive { image, cells, marks }, context| {
+        !matches!(direct(image, cells, marks, context, command), Answer::Refused(_))
+    })
 }
 
 /// The stack of a mailbox command for tag 1 and partition 0, with this key held.
-fn of_mailbox(command: Command, held: impl Into<Option<u64>>, expected: bool) -> usize {
-    let request = Request::of(command, &Values { tag: 1, ..Values::default() });
-    let accepted = |small: &mut Small| matches!(small.mailbox(&request), Reply::Accepted { .. });
-    measured(held.into(), expected, accepted)
+fn of_mailbox(command: Mail, held: Option<u64>, expected: bool) -> usize {
+    let Request { code, bytes } = Request::of(command, &Values { tag: 1, ..Values::default() });
+    measured(held, expected, |Lent { drive, response, block, .. }, context| {
+        let Drive { image, cells, marks } = drive;
+        let reply = mailbox(image, cells, marks, context, code, &bytes, response, block);
+        matches!(reply, Reply::Accepted { .. })
+    })
 }
 
-/// The stack of a call that is accepted or refused as expected.
-fn measured(held: Option<u64>, expected: bool, call: impl Fn(&mut Small) -> bool) -> usize {
-    assert_eq!(call(&mut small(held)), expected, "the call that is measured is another");
-    // What the call said is kept, so that no part of it is left out.
-    depth(|| (small(held), !expected), |(small, accepted)| *accepted = call(small))
+/// The stack of a call that is lent a drive alone and is carried out.
+fn carried_out(held: Option<u64>, call: impl Fn(&mut Drive, &mut Context) -> bool) -> usize {
+    measured(held, true, |lent, context| call(&mut lent.drive, context))
+}
+
+/// The stack of a call that is carried out or refused as expected, on the small
+/// drive with this tag held in place 9, or with an empty cache.
+fn measured(
+    held: Option<u64>,
+    expected: bool,
+    call: impl Fn(&mut Lent, &mut Context) -> bool,
+) -> usize {
+    let new = || {
+        let mut lent = small::marked(0, 0);
+        lent.cache.places[9] = held;
+        let context = context::of(&lent);
+        // What the call said is kept, so that no part of it is left out.
+        (lent, context, !expected)
+    };
+    let (mut lent, mut context, _) = new();
+    assert_eq!(call(&mut lent, &mut context), expected, "the call that is measured is another");
+    depth(new, |(lent, context, carried_out)| *carried_out = call(lent, context))
 }

@@ -1,73 +1,79 @@
-//! Counts of what the outputs of the status program said, so that a generator
-//! which no longer reaches something is noticed.
+//! How often everything was met that a run has to meet, so that a generator which
+//! no longer reaches something is noticed. The run is shared out to all cores.
 
-use crate::counts::Counts;
-use std::fmt;
+use std::collections::{BTreeMap, BTreeSet};
+use std::io::Write;
+use std::thread;
 
-/// Everything that a test over generated inputs has to have met.
-pub const KINDS: [&str; 9] = [
-    "table",
-    "refused 1",
-    "refused 2",
-    "erased",
-    "torn",
-    "blank",
-    "programmed",
-    "hek N",
-    "hek none",
-];
+/// Something to be met, by its name, and what tells whether it is.
+pub type Row<F> = (&'static str, F);
 
-/// How often each of the `KINDS` was met.
+/// The names of the rows that hold.
+pub fn that_hold<F>(rows: &[Row<F>], holds: impl Fn(&F) -> bool) -> Vec<String> {
+    rows.iter().filter(|(_, test)| holds(test)).map(|(name, _)| name.to_string()).collect()
+}
+
+/// The names of all rows.
+pub fn names<F>(rows: &[Row<F>]) -> Vec<String> {
+    that_hold(rows, |_| true)
+}
+
+/// How many things a run had, and how often each key was met in them.
 #[derive(Default)]
 pub struct Tally {
-    inputs: usize,
-    counts: Counts<&'static str>,
+    things: usize,
+    counts: BTreeMap<String, usize>,
 }
 
 impl Tally {
-    /// Counts one output.
-    pub fn add(&mut self, output: &[u8]) {
-        self.inputs += 1;
-        for line in String::from_utf8_lossy(output).lines() {
-            self.counts.add(kind(line));
-        }
+    /// Does the pieces of work numbered from 0 up to `count`, on all cores. Each
+    /// core counts what its pieces meet. A piece that panics fails the test.
+    pub fn over(count: usize, piece: impl Fn(&mut Tally, usize) + Sync) -> Tally {
+        let workers = thread::available_parallelism().map_or(2, |cores| cores.get());
+        let piece = &piece;
+        let work = move |worker: usize| {
+            let mut tally = Tally::default();
+            (worker..count).step_by(workers).for_each(|number| piece(&mut tally, number));
+            tally
+        };
+        let mut total = Tally::default();
+        thread::scope(|scope| {
+            let started: Vec<_> =
+                (0..workers).map(|worker| scope.spawn(move || work(worker))).collect();
+            for worker in started {
+                total.merge(worker.join().expect("every piece is as it should be"));
+            }
+        });
+        total
+    }
+
+    /// Counts a thing, with all that was met in it.
+    pub fn add(&mut self, met: impl IntoIterator<Item = String>) {
+        self.things += 1;
+        met.into_iter().for_each(|key| *self.counts.entry(key).or_default() += 1);
     }
 
     /// Adds what another tally counted.
     pub fn merge(&mut self, other: Tally) {
-        self.inputs += other.inputs;
-        self.counts.merge(other.counts);
-    }
-
-    pub fn inputs(&self) -> usize {
-        self.inputs
-    }
-
-    pub fn count(&self, kind: &'static str) -> usize {
-        self.counts.of(&kind)
-    }
-}
-
-/// One line, every kind with its count.
-impl fmt::Display for Tally {
-    fn fmt(&self, f: &mut fmt::Formatter) -> fmt::Result {
-        write!(f, "{} inputs:", self.inputs)?;
-        for (place, kind) in KINDS.iter().enumerate() {
-            let comma = if place == 0 { "" } else { "," };
-            write!(f, "{comma} {kind} {}", self.count(kind))?;
+        self.things += other.things;
+        for (key, count) in other.counts {
+            *self.counts.entry(key).or_default() += count;
         }
-        Ok(())
     }
-}
 
-/// The kind of a line: a partition's line is of the kind of its state.
-fn kind(line: &str) -> &'static str {
-    let said = match line {
-        "part cells state short" => "table",
-        "refused 1" | "refused 2" | "hek none" => line,
-        _ if line.starts_with("hek ") => "hek N",
-        _ => line.split(' ').nth(2).unwrap_or(line),
-    };
-    let known = KINDS.iter().find(|kind| **kind == said);
-    known.unwrap_or_else(|| panic!("a line of no known kind: {line}"))
+    /// Prints all counts. Fails the test unless there were so many things, each key
+    /// that can be met was met `least` times or more, and no other was met.
+    pub fn check(&self, (things, called): (usize, &str), possible: Vec<String>, least: usize) {
+        let count = |key: &String| self.counts.get(key).copied().unwrap_or(0);
+        let all: Vec<String> = possible.iter().map(|key| format!("{key} {}", count(key))).collect();
+        // Written past the test harness, which would keep a print to itself.
+        writeln!(std::io::stdout(), "generated: {} {called}: {}", self.things, all.join("; "))
+            .expect("the summary can be printed");
+        assert!(self.things >= things, "too few {called}: {}", self.things);
+        let scarce: Vec<&String> = possible.iter().filter(|key| count(key) < least).collect();
+        assert_eq!(scarce, [""; 0], "too few of these");
+        let possible: BTreeSet<&String> = possible.iter().collect();
+        let others: Vec<&String> = self.counts.keys().filter(|k| !possible.contains(k)).collect();
+        assert_eq!(others, [""; 0], "met though they cannot be");
+    }
 }

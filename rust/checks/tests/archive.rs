@@ -1,7 +1,7 @@
-//! The archive's symbols: it needs none from outside, and has the header's
-//! functions for others and no more.
+//! The archive from outside: it needs no symbol, has the header's functions for others and
+//! no more, and no unwind tables.
 
-use checks::tools::{archive, printed};
+use checks::runner::{archive, printed};
 use std::process::Command;
 
 /// The symbols that `nm` lists with these options, without the lines that name
@@ -21,17 +21,14 @@ fn archive_has_no_undefined_symbol() {
 fn archive_defines_the_headers_functions_for_others_and_no_more() {
     let mut defined = symbols(&["-g", "--defined-only"]);
     defined.sort();
-    let header = [
-        "sci_cache_place",
-        "sci_erase",
-        "sci_erase_cut",
-        "sci_mailbox",
-        "sci_partition",
-        "sci_read",
-        "sci_restart",
-        "sci_states",
-        "sci_write",
-        "sci_zeroize",
-    ];
+    let header = "cache_place erase erase_cut mailbox partition read restart states write zeroize";
+    let header: Vec<String> = header.split(' ').map(|name| format!("sci_{name}")).collect();
     assert_eq!(defined, header);
+}
+
+/// README's limits.
+#[test]
+fn archive_has_no_unwind_tables() {
+    let sections = printed(Command::new("readelf").arg("-SW").arg(archive()));
+    assert!(sections.contains(".text") && !sections.contains(".eh_frame"), "{sections}");
 }

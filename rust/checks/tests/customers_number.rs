@@ -1,10 +1,8 @@
 //! The customer's number: 59 of 64 where the bound is 60, in a partition of
 //! 1,024 fuses. At 60 the word passes, at 59 it does not.
 
-use checks::runner;
-use model::drive::Drive;
-use model::image::{entry, Image, SLOT_FLAGS};
-use model::map::HARDWARE;
+use checks::status;
+use model::{entry, Drive, Image, HARDWARE, SLOT_FLAGS};
 
 const INDICATOR: usize = 30;
 
@@ -16,36 +14,20 @@ fn printed(pair: usize, zeros: u32) -> String {
     let mut cells = vec![u32::MAX; 32];
     cells[pair + 1] = u32::MAX << zeros;
     let drive = Drive { image: image.bytes(), cells, marks: vec![0; 32] };
-    String::from_utf8_lossy(&runner::status(&drive.status_input())).into_owned()
-}
-
-/// The first cells of the data and digest pairs.
-fn pairs_before_the_indicator() -> impl Iterator<Item = usize> {
-    (0..INDICATOR).step_by(2)
+    let printed = status::printed(&drive.status_input());
+    printed.strip_prefix("part cells state short\n").expect("a table").to_string()
 }
 
 #[test]
-fn one_pair_of_59_makes_the_partition_torn() {
-    for pair in pairs_before_the_indicator() {
-        let expected = "part cells state short\n0 32 torn 1\nhek none\n";
-        assert_eq!(printed(pair, 5), expected, "pair {pair}");
+fn one_pair_of_59_makes_the_partition_torn_and_one_of_60_leaves_it_erased() {
+    for pair in (0..INDICATOR).step_by(2) {
+        assert_eq!(printed(pair, 5), "0 32 torn 1\nhek none\n", "pair {pair}");
+        assert_eq!(printed(pair, 4), "0 32 erased 0\nhek none\n", "pair {pair}");
     }
 }
 
 #[test]
-fn one_pair_of_60_leaves_the_partition_erased() {
-    for pair in pairs_before_the_indicator() {
-        let expected = "part cells state short\n0 32 erased 0\nhek none\n";
-        assert_eq!(printed(pair, 4), expected, "pair {pair}");
-    }
-}
-
-#[test]
-fn an_indicator_of_59_is_not_counted_as_zeroized() {
-    assert_eq!(printed(INDICATOR, 5), "part cells state short\n0 32 programmed 1\nhek 0\n");
-}
-
-#[test]
-fn an_indicator_of_60_is_counted_as_zeroized() {
-    assert_eq!(printed(INDICATOR, 4), "part cells state short\n0 32 erased 0\nhek none\n");
+fn an_indicator_of_59_is_not_counted_as_zeroized_and_one_of_60_is() {
+    assert_eq!(printed(INDICATOR, 5), "0 32 programmed 1\nhek 0\n");
+    assert_eq!(printed(INDICATOR, 4), "0 32 erased 0\nhek none\n");
 }

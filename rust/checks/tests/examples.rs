@@ -1,15 +1,14 @@
-//! The examples for C and for Rust print the same lines. They are written from
-//! document 01: "The small drive" gives the map and its fields, case 1 what FSTA
-//! answers, case 7 what the cut leaves and what the next erasure answers; a load
-//! takes place 0 ("Active slot and key cache"), an erasure of the slot is then
-//! refused with 10, and an erased slot is not active.
+//! The examples for C and for Rust print the same lines. They are written from document 01: "The
+//! small drive" gives the map and its fields, case 1 what FSTA answers, case 7 what the cut leaves
+//! and what the next erasure answers; a load takes place 0 ("Active slot and key cache"), an
+//! erasure of the slot is then refused with 10, and an erased slot is not active.
 //!
 //! With a stuck mark on cell 1 the last erasure is that of case 3 (0F: 60 of 64
 //! ones, erased) or of case 4 (1F: 59 of 64 ones, short 1, torn), and an example
 //! that leaves the slot torn must fail.
 
-use checks::tools;
-use std::path::{Path, PathBuf};
+use checks::runner;
+use std::path::Path;
 use std::process::Command;
 
 /// Up to the power failure; the states after it have short word 0 and digest.
@@ -53,8 +52,7 @@ fn ends(status: i32, end: &str, warning: &str) -> Ran {
     (Some(status), format!("{BEGINNING}{end}"), warning.to_string())
 }
 
-/// Runs an example with no mark, with those of cases 3 and 4, and with arguments
-/// that are none.
+/// Runs an example with no mark, with those of cases 3 and 4, and with arguments that are none.
 fn check(program: &Path) {
     assert_eq!(run(program, &[]), ends(0, ERASED, ""));
     assert_eq!(run(program, &["0F"]), ends(0, ERASED, ""));
@@ -67,13 +65,10 @@ fn check(program: &Path) {
     }
 }
 
-fn c_example() -> PathBuf {
-    tools::compiled("examples/c/key_block.c", Path::new(env!("CARGO_TARGET_TMPDIR")))
-}
-
 #[test]
 fn c_example_does_what_the_document_says() {
-    check(&c_example());
+    let directory = Path::new(env!("CARGO_TARGET_TMPDIR"));
+    check(&runner::compiled("examples/c/key_block.c", directory));
 }
 
 #[test]

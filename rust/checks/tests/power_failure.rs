@@ -1,7 +1,6 @@
-//! Document 01, "Erasing a partition", on "The small drive": what the program
-//! `power_failure` prints, which cuts an erasure at each burn. The lines are
-//! written from the document: the order is indicator (cell 4), data (cell 0),
-//! digest (cell 2); 60 ones pass the bound and 59 do not.
+//! Document 01, "Erasing a partition", on "The small drive": what the program `power_failure`
+//! prints, which cuts an erasure at each burn. The lines are written from the document: the order
+//! is indicator (cell 4), data (cell 0), digest (cell 2); 60 ones pass the bound and 59 do not.
 
 use checks::runner;
 use std::path::Path;
@@ -27,7 +26,7 @@ burn word        mask   answer              word after       state      short he
 ";
 
 /// Fuses 32 to 36 of word 0 are stuck: it is short whatever burns.
-const DATA_STUCK: &str = "
+const DATA_STUCK: &str = "\
 small drive, bound 60, mark 1F on cell 1: word 0 cannot have more than 59 ones
 burn word        mask   answer              word after       state      short hek  erased again
 0    indicator 4 none   cut, burns 1        0000000000000000 programmed 3     0    short 1, burns 3
@@ -47,9 +46,9 @@ burn word        mask   answer              word after       state      short he
 2    digest 2    all 64 cut, burns 3        FFFFFFFFFFFFFFFF torn       1     none short 1, burns 3
 ";
 
-/// Fuses 32 to 36 of the indicator are stuck: it is short whatever burns, and
-/// the erasure ends with 15 before burn 1.
-const INDICATOR_STUCK: &str = "
+/// Fuses 32 to 36 of the indicator are stuck: it is short whatever burns. Here is the cut at it;
+/// before any later burn the erasure ends with 15, and leaves the word as it was.
+const INDICATOR_STUCK: &str = "\
 small drive, bound 60, mark 1F on cell 5: the indicator cannot have more than 59 ones
 burn word        mask   answer              word after       state      short hek  erased again
 0    indicator 4 none   cut, burns 1        0000000000000000 programmed 3     0    refused 15, burns 1
@@ -57,21 +56,18 @@ burn word        mask   answer              word after       state      short he
 0    indicator 4 low 59 cut, burns 1        07FFFFE0FFFFFFFF programmed 3     0    refused 15, burns 1
 0    indicator 4 low 60 cut, burns 1        0FFFFFE0FFFFFFFF programmed 3     0    refused 15, burns 1
 0    indicator 4 all 64 cut, burns 1        FFFFFFE0FFFFFFFF programmed 3     0    refused 15, burns 1
-1    data 0      none   refused 15, burns 1 0000000000000001 programmed 3     0    refused 15, burns 1
-1    data 0      low 32 refused 15, burns 1 0000000000000001 programmed 3     0    refused 15, burns 1
-1    data 0      low 59 refused 15, burns 1 0000000000000001 programmed 3     0    refused 15, burns 1
-1    data 0      low 60 refused 15, burns 1 0000000000000001 programmed 3     0    refused 15, burns 1
-1    data 0      all 64 refused 15, burns 1 0000000000000001 programmed 3     0    refused 15, burns 1
-2    digest 2    none   refused 15, burns 1 0000000000000000 programmed 3     0    refused 15, burns 1
-2    digest 2    low 32 refused 15, burns 1 0000000000000000 programmed 3     0    refused 15, burns 1
-2    digest 2    low 59 refused 15, burns 1 0000000000000000 programmed 3     0    refused 15, burns 1
-2    digest 2    low 60 refused 15, burns 1 0000000000000000 programmed 3     0    refused 15, burns 1
-2    digest 2    all 64 refused 15, burns 1 0000000000000000 programmed 3     0    refused 15, burns 1
 ";
 
 #[test]
 fn each_cut_leaves_what_the_document_says() {
     let printed = runner::run(Path::new(env!("CARGO_BIN_EXE_power_failure")), &[]);
-    let expected = [NO_STUCK_FUSE, DATA_STUCK, INDICATOR_STUCK].concat();
+    let mut expected = [NO_STUCK_FUSE, DATA_STUCK, INDICATOR_STUCK].concat();
+    for (word, stands) in [("1    data 0     ", 1), ("2    digest 2   ", 0)] {
+        for mask in ["none  ", "low 32", "low 59", "low 60", "all 64"] {
+            let answer = "refused 15, burns 1";
+            expected +=
+                &format!("{word} {mask} {answer} {stands:016X} programmed 3     0    {answer}\n");
+        }
+    }
     assert_eq!(String::from_utf8_lossy(&printed), expected);
 }

@@ -1,9 +1,8 @@
 //! Document 01, "A status program": its refusals, in the document's order.
 //!
-//! The inputs are pieces laid end to end; each piece is named after what is
-//! wrong with it.
+//! The inputs are pieces laid end to end; each piece is named after what is wrong with it.
 
-use checks::runner;
+use checks::status::printed;
 
 /// The small drive's map, its twelve cells or marks being zeros here.
 const MAP: &[u8] = &[2, 0, 12, 0, 60, 0, 8, 0, 0, 0, 6, 0, 0, 7, 0, 0, 6, 0, 6, 0, 1, 0, 0, 0];
@@ -19,8 +18,7 @@ const TABLE: &str = "part cells state short\n0 6 blank 3\n1 6 blank 3\nhek none\
 
 fn check(cases: &[(&str, &[&[u8]], &str)]) {
     for (name, pieces, expected) in cases {
-        let printed = runner::status(&pieces.concat());
-        assert_eq!(String::from_utf8_lossy(&printed), *expected, "{name}");
+        assert_eq!(printed(&pieces.concat()), *expected, "{name}");
     }
 }
 

@@ -1,37 +1,16 @@
-//! The sample drives of `drives/`: what the status program prints for each is
-//! what stands beside it, and what an erasure or a cut is said to have left is
-//! what the library leaves.
+//! The sample drives of `drives/`: what the status program prints for each is what stands beside
+//! it, and what an erasure or a cut is said to have left is what the library leaves.
 
-use checks::calls::erasures::low_bits;
-use checks::runner::{self, in_repository};
+use checks::calls::commands::low_bits;
+use checks::proved::Proved;
+use checks::runner::in_repository;
+use checks::status;
 use drives::Drive;
-use model::map::Map;
-use sciambrunola::{erase, erase_cut, Context};
+use model::{Call, Cut, Erase, KeyBlock, Lent, Map};
 use std::collections::BTreeSet;
 use std::fs;
 
-/// What happened to slot 0 of the small drive.
-enum Erasure {
-    /// Its erasure, with the sample's stuck fuses, accepted or refused.
-    Uncut,
-    /// The same with the power failing at this burn, this many low fuses burned.
-    Cut(u32, u32),
-}
-
-/// The samples that an erasure of the small drive leaves.
-const OF_SMALL: [(&str, Erasure); 9] = [
-    ("erased", Erasure::Uncut),
-    ("erased_60", Erasure::Uncut),
-    ("torn_59", Erasure::Uncut),
-    ("indicator_59", Erasure::Uncut),
-    ("cut_0_at_59", Erasure::Cut(0, 59)),
-    ("cut_0_at_60", Erasure::Cut(0, 60)),
-    ("cut_1_at_32", Erasure::Cut(1, 32)),
-    ("cut_2_at_59", Erasure::Cut(2, 59)),
-    ("cut_2_at_60", Erasure::Cut(2, 60)),
-];
-
-/// Other samples, with the partitions that were erased.
+/// The samples of other drives than the small one, with the partitions that were erased.
 const OF_OTHERS: [(&str, &[usize]); 3] =
     [("customers_number", &[0]), ("torn_slot_first", &[0]), ("two_slots", &[0, 3, 4])];
 
@@ -57,27 +36,12 @@ fn drive(name: &str) -> Drive {
 }
 
 #[test]
-fn each_text_has_its_output_and_its_erasure_is_checked() {
-    let texts = names(".txt");
-    assert_eq!(texts, names(".status"));
-    let small = OF_SMALL.iter().map(|(name, _)| *name);
-    let others = OF_OTHERS.iter().map(|(name, _)| *name);
-    let listed = small.chain(others).chain(UNTOUCHED).map(str::to_string);
-    assert_eq!(texts, listed.collect::<BTreeSet<_>>());
-}
-
-#[test]
-fn status_prints_what_stands_beside_each_text() {
+fn status_prints_what_stands_beside_each_text_which_begins_with_what_happened() {
+    assert_eq!(names(".txt"), names(".status"));
     for name in names(".txt") {
-        let printed = runner::status(&drive(&name).bytes());
-        assert_eq!(String::from_utf8_lossy(&printed), text(&format!("{name}.status")), "{name}");
-    }
-}
-
-#[test]
-fn each_text_begins_with_what_happened() {
-    for name in names(".txt") {
-        assert!(text(&format!("{name}.txt")).starts_with("# "), "{name}");
+        let printed = status::printed(&drive(&name).bytes());
+        assert_eq!(printed, text(&format!("{name}.status")), "{name}");
+        assert!(text(&format!("{name}.txt")).starts_with("# "), "{name}: what happened");
     }
 }
 
@@ -100,22 +64,30 @@ fn table_has_a_row_for_each_sample_and_quotes_its_output() {
     assert_eq!(named, names(".txt"));
 }
 
+/// The cells that a call leaves, on a sample's map and marks.
+fn left(sample: &Drive, cells: &[u32], partition: u32, cut: Option<Cut>) -> Vec<u32> {
+    let (image, marks) = (sample.image().to_vec(), sample.marks().to_vec());
+    let drive = model::drive::Drive { image, cells: cells.to_vec(), marks };
+    let mut lent = Lent { drive, ..Lent::default() };
+    Proved.answer(&mut lent, &Call::Erase(Erase { partition, cut }));
+    lent.drive.cells
+}
+
+/// Every other sample is one that an erasure of the small drive's slot leaves, with the sample's
+/// stuck fuses: accepted or refused, or cut at the burn and with the low fuses that its name says.
 #[test]
 fn erasures_of_the_small_drive_leave_the_samples_cells() {
     let small = drive("programmed");
     assert_eq!(small.bytes(), model::drive::Drive::small().status_input());
-    for (name, erasure) in OF_SMALL {
-        let sample = drive(name);
+    let other = |name: &String| OF_OTHERS.iter().any(|(other, _)| other == name);
+    let samples = names(".txt").into_iter().filter(|name| !other(name));
+    for name in samples.filter(|name| !UNTOUCHED.contains(&name.as_str())) {
+        let sample = drive(&name);
         assert_eq!(sample.image(), small.image(), "{name}");
-        let (image, mut cells, marks) = (sample.image(), small.cells().to_vec(), sample.marks());
-        let mut context = Context::new();
-        match erasure {
-            Erasure::Uncut => erase(image, &mut cells, marks, &mut context, 0),
-            Erasure::Cut(k, low) => {
-                erase_cut(image, &mut cells, marks, &mut context, 0, k, low_bits(low))
-            }
-        };
-        assert_eq!(cells, sample.cells(), "{name}");
+        let cut = name.strip_prefix("cut_").and_then(|cut| cut.split_once("_at_"));
+        let number = |digits: &str| digits.parse().expect("a number in the name");
+        let cut = cut.map(|(k, low)| Cut { k: number(k), mask: low_bits(number(low)) });
+        assert_eq!(left(&sample, small.cells(), 0, cut), sample.cells(), "{name}");
     }
 }
 
@@ -127,8 +99,7 @@ fn erasures_of_other_drives_leave_the_samples_cells() {
         let mut cells = sample.cells().to_vec();
         for &partition in partitions {
             cells[map.entries()[partition].range()].fill(0);
-            let context = &mut Context::new();
-            erase(sample.image(), &mut cells, sample.marks(), context, partition as u32);
+            cells = left(&sample, &cells, partition as u32, None);
         }
         assert_eq!(cells, sample.cells(), "{name}");
     }

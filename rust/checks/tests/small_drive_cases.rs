@@ -1,48 +1,70 @@
-//! Document 01, "The small drive", cases 1 to 10: what the program
-//! `small_drive` prints, which plays them on the proved key block.
+//! Document 01, "The small drive", cases 1 to 10: what the program `small_drive`
+//! prints, which plays them on the proved key block. A line has the request's chksum,
+//! the answer, the fields of the response, and the slot as it stands after it.
 
 use checks::runner;
 use std::path::Path;
 
-const EXPECTED: &str = "\
-case  1: FSTA, chksum 0xFFFFFED2: active 0, available 1
-case  2: FERS 0, chksum 0xFFFFFED0: short 0, first 0xFFFFFFFF, response chksum 0xFFFFFC04, \
-3 burns, cells 0 to 5 [FFFFFFFF, FFFFFFFF, FFFFFFFF, FFFFFFFF, FFFFFFFF, FFFFFFFF]
-case  3: FERS 0, mark 0F on cell 1: short 0, first 0xFFFFFFFF, 60 ones, erased with 0 short
-case  4: FERS 0, mark 1F on cell 1: short 1, first 0, 59 ones, torn with 1 short, available 0
-case  5: FERS 0, mark 1F on cell 5: refused 15, cells 4 and 5 [FFFFFFFF, FFFFFFE0]
-case  6: erasure cut at 0: low 59 bits programmed with 3 short; low 60 bits torn with 2 short
-case  7: erasure cut at 1: cells 0 and 1 [FFFFFFFF, 00000000], torn with 2 short; \
-FERS 0 again: short 0, first 0xFFFFFFFF, \
-cells 0 to 5 [FFFFFFFF, FFFFFFFF, FFFFFFFF, FFFFFFFF, FFFFFFFF, FFFFFFFF]
-case  8: FERS 1: refused 8; FERS 2: refused 7
-case  9: CLKC, chksum 0xFFFFFDF8: 12 bytes, clear, timeout 1000, \
-response [00, 00, 00, 00, 00, 00, 00, 00, 00, 00, 00, 00]
-case 10: KLOD tag 100: 16 bytes, load, place 0
-case 10: KLOD tag 101: 16 bytes, load, place 1
-case 10: KLOD tag 102: 16 bytes, load, place 2
-case 10: KLOD tag 103: 16 bytes, load, place 3
-case 10: KLOD tag 104: 16 bytes, load, place 4
-case 10: KLOD tag 105: 16 bytes, load, place 5
-case 10: KLOD tag 106: 16 bytes, load, place 6
-case 10: KLOD tag 107: 16 bytes, load, place 7
-case 10: KLOD tag 108: 16 bytes, load, place 8
-case 10: KLOD tag 109: 16 bytes, load, place 9
-case 10: KLOD tag 110: 16 bytes, load, place 10
-case 10: KLOD tag 111: 16 bytes, load, place 11
-case 10: KLOD tag 112: 16 bytes, load, place 12
-case 10: KLOD tag 113: 16 bytes, load, place 13
-case 10: KLOD tag 114: 16 bytes, load, place 14
-case 10: KLOD tag 115: 16 bytes, load, place 15
-case 10: KLOD tag 116: refused 13
-case 10: KLOD tag 107: refused 12
-case 10: KUNL tag 103: 12 bytes, unload, place 3
-case 10: KLOD tag 117: 16 bytes, load, place 3
+/// Cases 1 to 9. The chksums that the document does not give follow from its sum.
+const CASES: &str = "\
+case 1, mark 00 on cell 0: FSTA FFFFFED2, status: 20 bytes, no order [FFFFFFFF, 0, 0, 0, 1]; FRESH
+case 2, mark 00 on cell 0: FERS FFFFFED0, partition 0: ERASED, FFFFFFFF, ONES
+case 2, mark 00 on cell 0: erasure: short 0, burns 3; erased, 0 short, hek none, \
+[FFFFFFFF, FFFFFFFF, ONES
+case 3, mark 0F on cell 1: FERS FFFFFED0, partition 0: ERASED, FFFFFFF0, ONES
+case 4, mark 1F on cell 1: FERS FFFFFED0, partition 0: 20 bytes, no order \
+[FFFFFFFF, 0, 0, 1, 0]; torn, 1 short, hek none, [FFFFFFFF, FFFFFFE0, ONES
+case 4, mark 1F on cell 1: FSTA FFFFFED2, status: 20 bytes, no order \
+[0, 0, 0, 0, 0]; torn, 1 short, hek none, [FFFFFFFF, FFFFFFE0, ONES
+case 5, mark 1F on cell 5: FERS FFFFFED0, partition 0: refused 15; \
+programmed, 3 short, hek 0, [1, 0, 0, 0, FFFFFFFF, FFFFFFE0]
+case 6, mark 00 on cell 0: erasure cut at 0, low 59 bits: cut, burns 1; \
+programmed, 3 short, hek 0, [1, 0, 0, 0, FFFFFFFF, 7FFFFFF]
+case 6, mark 00 on cell 0: erasure cut at 0, low 60 bits: cut, burns 1; \
+torn, 2 short, hek none, [1, 0, 0, 0, FFFFFFFF, FFFFFFF]
+case 7, mark 00 on cell 0: erasure cut at 1, low 32 bits: cut, burns 2; \
+torn, 2 short, hek none, [FFFFFFFF, 0, 0, 0, FFFFFFFF, FFFFFFFF]
+case 7, mark 00 on cell 0: FERS FFFFFED0, partition 0: ERASED, FFFFFFFF, ONES
+case 8, mark 00 on cell 0: FERS FFFFFECF, partition 1: refused 8; FRESH
+case 8, mark 00 on cell 0: FERS FFFFFECE, partition 2: refused 7; FRESH
+case 9, mark 00 on cell 0: CLKC FFFFFDF8, timeout 1000: 12 bytes, clear, timeout 1000 [0, 0, 0]; FRESH
 ";
+
+/// What stands for the words in capitals: the slot as it was, what FERS answers where
+/// no pair is short, with the first cell, and the last four cells.
+const WORDS: [(&str, &str); 3] = [
+    ("FRESH", "programmed, 3 short, hek 0, [1, 0, 0, 0, 0, 0]"),
+    (
+        "ERASED",
+        "20 bytes, no order [FFFFFC04, 0, 0, 0, FFFFFFFF]; erased, 0 short, hek none, [FFFFFFFF",
+    ),
+    ("ONES", "FFFFFFFF, FFFFFFFF, FFFFFFFF, FFFFFFFF]"),
+];
+
+/// The bytes of KLOD's code sum to 12A, those of KUNL's to 13A. Of a response the
+/// place is the one byte that is not 0.
+fn case_10() -> String {
+    let line = |name: &str, sum: u32, tag: u32, answer: &str| {
+        let chksum = 0_u32.wrapping_sub(sum + tag);
+        format!("case 10: {name} {chksum:08X}, tag {tag}: {answer}; FRESH\n")
+    };
+    let load = |tag: u32, place: u32| {
+        let chksum = 0_u32.wrapping_sub(place);
+        let response = format!("[{chksum:X}, 0, 0, {place:X}]");
+        line("KLOD", 0x12A, tag, &format!("16 bytes, load, place {place} {response}"))
+    };
+    let mut lines: String = (0..16).map(|place| load(100 + place, place)).collect();
+    lines += &line("KLOD", 0x12A, 116, "refused 13");
+    lines += &line("KLOD", 0x12A, 107, "refused 12");
+    lines += &line("KUNL", 0x13A, 103, "12 bytes, unload, place 3 [0, 0, 0]");
+    lines + &load(117, 3)
+}
 
 #[test]
 fn cases_1_to_10_are_the_documents() {
     let program = Path::new(env!("CARGO_BIN_EXE_small_drive"));
     let printed = runner::run(program, &[]);
-    assert_eq!(String::from_utf8_lossy(&printed), EXPECTED);
+    let fill = |text: String, (word, meaning): &(&str, &str)| text.replace(word, meaning);
+    let expected = WORDS.iter().fold([CASES, &case_10()].concat(), fill);
+    assert_eq!(String::from_utf8_lossy(&printed), expected);
 }

@@ -1,15 +1,13 @@
-//! Document 01, "The small drive": every cut of the slot's erasure, at every
-//! burn and past the last one, with every single fuse and every number of low
-//! fuses burned, on the drives of cases 2 to 5. What follows a cut is played as
-//! a history, so that every clause of demand 3 is checked, and every call is
-//! compared with the model.
+//! Document 01, "The small drive": every cut of the slot's erasure, at every burn and past the
+//! last one, with every single fuse and every number of low fuses burned, on the drives of cases 2
+//! to 5. What follows a cut is played as a history, so that every clause of demand 3 is checked,
+//! and every call is compared with the model.
 
-use checks::calls::erasures::low_bits;
-use checks::calls::{requests, Call};
+use checks::calls::commands::low_bits;
+use checks::calls::requests;
 use checks::histories::{all_hold, Attempt, History};
-use checks::small::SLOT;
-use model::drive::Drive;
-use model::erasure::{Cut, Erase};
+use checks::small::{self, SLOT};
+use model::{Call, Cut, Erase};
 use sciambrunola::BLOCK_BYTES;
 
 /// The marked cell and its mark: none, then cases 3, 4 and 5.
@@ -22,18 +20,15 @@ fn masks() -> impl Iterator<Item = u64> {
     (0..64).map(|fuse| 1 << fuse).chain((0..=64).map(low_bits))
 }
 
-fn erase(cut: Option<Cut>) -> Attempt {
-    Attempt::without_buffers(Call::Erase(Erase { partition: SLOT, cut }))
-}
-
-fn fers() -> Attempt {
-    Attempt::fers(requests::fers(SLOT), (vec![0xB1; BLOCK_BYTES], vec![0xA5; 24]))
+fn attempt(call: Call) -> Attempt {
+    Attempt { call, buffers: (vec![0xB1; BLOCK_BYTES], vec![0xA5; 24]) }
 }
 
 /// What is asked for after, or before, this cut.
 fn lists(cut: Cut) -> Vec<Vec<Attempt>> {
-    let restart = || Attempt::without_buffers(Call::Restart);
-    let cut = || erase(Some(cut));
+    let erase = |cut| attempt(Call::Erase(Erase { partition: SLOT, cut }));
+    let (cut, fers) = (|| erase(Some(cut)), || attempt(Call::Mailbox(requests::fers(SLOT))));
+    let restart = || attempt(Call::Restart);
     vec![
         vec![cut(), erase(None), cut()],
         vec![cut(), restart(), fers(), fers()],
@@ -42,22 +37,16 @@ fn lists(cut: Cut) -> Vec<Vec<Attempt>> {
     ]
 }
 
-fn histories() -> Vec<History> {
+#[test]
+fn every_cut_of_the_small_drive_keeps_demand_3_and_is_the_models() {
     let mut histories = Vec::new();
     for (cell, mark) in STUCK {
         for cut in KS.into_iter().flat_map(|k| masks().map(move |mask| Cut { k, mask })) {
-            let mut start = Drive::small();
-            start.marks[cell] = mark;
+            let start = small::marked(cell, mark).drive;
             let of = |attempts| History { start: start.clone(), partition: SLOT, attempts };
             histories.extend(lists(cut).into_iter().map(of));
         }
     }
-    histories
-}
-
-#[test]
-fn every_cut_of_the_small_drive_keeps_demand_3_and_is_the_models() {
-    let histories = histories();
     assert_eq!(histories.len(), 4 * 8 * 129 * 4);
     all_hold(histories.len(), |number| histories[number].clone());
 }

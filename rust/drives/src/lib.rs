@@ -4,10 +4,7 @@
 #![deny(missing_docs)]
 
 mod drive;
-mod fuses;
-mod line;
-mod map;
-mod words;
+mod text;
 
 pub use drive::Drive;
-pub use line::Mistake;
+pub use text::Mistake;

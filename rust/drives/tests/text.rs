@@ -6,11 +6,6 @@ use drives::Drive;
 /// Document 01's small drive.
 const SMALL: &str = "12 60\n0 6 0 7\n6 6 1 0\ncell 0 1\n";
 
-/// A drive of four cells without a partition, and these lines.
-fn four_cells(lines: &str) -> Drive {
-    read(&format!("4 60\n{lines}"))
-}
-
 fn read(text: &str) -> Drive {
     Drive::read(text).unwrap_or_else(|mistake| panic!("{mistake} in {text:?}"))
 }
@@ -27,52 +22,35 @@ fn small_drive_is_the_documents_bytes() {
     // The other cells, then the marks.
     expected.resize(2 + 24 + 4 * 12 + 4 * 12, 0);
     assert_eq!(read(SMALL).bytes(), expected);
-}
-
-#[test]
-fn numbers_are_little_endian_and_marks_follow_the_cells() {
-    let text = "2 513\n772 1286 7 8\ncell 0 A1B2C3D4\nmark 1 5E6F7\n";
-    let expected = [
-        16, 0, // map length
-        1, 0, 2, 0, 1, 2, 8, 0, // P, C, B, E
-        4, 3, 6, 5, 7, 8, 0, 0, // first, n, kind, flags, two zero bytes
-        0xD4, 0xC3, 0xB2, 0xA1, 0, 0, 0, 0, // cells
-        0, 0, 0, 0, 0xF7, 0xE6, 5, 0, // marks
-    ];
-    assert_eq!(read(text).bytes(), expected);
-}
-
-#[test]
-fn parts_are_those_of_the_bytes() {
-    let drive = read("2 60\n0 4 0 0\ncell 1 2\nmark 0 3\n");
-    assert_eq!(drive.image(), [1, 0, 2, 0, 60, 0, 8, 0, 0, 0, 4, 0, 0, 0, 0, 0]);
-    assert_eq!((drive.cells(), drive.marks()), (&[0, 2][..], &[3, 0][..]));
-}
-
-#[test]
-fn comments_and_empty_lines_say_nothing() {
+    // Comments and empty lines say nothing.
     let text = "# é\n\n12 60\n#0 6 0 7\n0 6 0 7\n\n6 6 1 0\n# cell 1 1\n\ncell 0 1\n#\n";
     assert_eq!(read(text), read(SMALL));
 }
 
 #[test]
-fn map_needs_no_partition_and_no_fuses() {
-    assert_eq!(read("0 0\n").bytes(), [8, 0, 0, 0, 0, 0, 0, 0, 8, 0]);
+fn numbers_are_little_endian_and_marks_follow_the_cells() {
+    let drive = read("2 513\n772 1286 7 8\ncell 0 A1B2C3D4\nmark 1 5E6F7\n");
+    let image = [
+        1, 0, 2, 0, 1, 2, 8, 0, // P, C, B, E
+        4, 3, 6, 5, 7, 8, 0, 0, // first, n, kind, flags, two zero bytes
+    ];
+    let fuses = [0xD4, 0xC3, 0xB2, 0xA1, 0, 0, 0, 0, 0, 0, 0, 0, 0xF7, 0xE6, 5, 0];
+    assert_eq!(drive.bytes(), [&[16, 0][..], &image, &fuses].concat());
+    assert_eq!(drive.image(), image);
+    assert_eq!((drive.cells(), drive.marks()), (&[0xA1B2_C3D4, 0][..], &[0, 0x5_E6F7][..]));
 }
 
+/// No partition and no fuses, every field at its widest, and as many partitions
+/// and cells as can be.
 #[test]
 fn map_keeps_no_rule_but_the_widths_of_its_fields() {
-    let drive = read("0 65535\n65535 65535 255 255\n3 1 3 9\n");
+    assert_eq!(read("0 0\n").bytes(), [8, 0, 0, 0, 0, 0, 0, 0, 8, 0]);
     let expected = [
         2, 0, 0, 0, 255, 255, 8, 0, // P, C, B, E
         255, 255, 255, 255, 255, 255, 0, 0, // first, n, kind, flags, two zero bytes
         3, 0, 1, 0, 3, 9, 0, 0,
     ];
-    assert_eq!(drive.image(), expected);
-}
-
-#[test]
-fn largest_map_and_most_cells_are_written() {
+    assert_eq!(read("0 65535\n65535 65535 255 255\n3 1 3 9\n").image(), expected);
     let text = format!("65535 60\n{}cell 65534 1\n", "0 4 0 0\n".repeat(8190));
     let bytes = read(&text).bytes();
     assert_eq!(bytes.len(), 2 + 8 + 8 * 8190 + 2 * 4 * 65535);
@@ -80,21 +58,19 @@ fn largest_map_and_most_cells_are_written() {
     assert_eq!(bytes[..4], [0xF8, 0xFF, 0xFE, 0x1F]);
 }
 
+/// The lines of a drive of four cells without a partition, its cells and marks.
 #[test]
-fn value_is_one_to_eight_hexadecimal_digits() {
-    let drive = four_cells("cell 0 F\ncell 1 0000000f\ncell 2 89abCDEF\ncell 3 0\n");
-    assert_eq!(drive.cells(), [0xF, 0xF, 0x89AB_CDEF, 0]);
-}
-
-#[test]
-fn run_names_its_first_and_its_last_cell() {
-    assert_eq!(four_cells("cell 1-2 A\nmark 0-3 B\n").cells(), [0, 0xA, 0xA, 0]);
-    assert_eq!(four_cells("cell 1-2 A\nmark 0-3 B\n").marks(), [0xB; 4]);
-    assert_eq!(four_cells("cell 3-3 A\n"), four_cells("cell 3 A\n"));
-}
-
-#[test]
-fn fuses_stand_in_any_order() {
-    let ordered = four_cells("cell 0 1\ncell 1-2 2\nmark 0 3\n");
-    assert_eq!(four_cells("mark 0 3\ncell 1-2 2\ncell 0 1\n"), ordered);
+fn fuses_are_one_to_eight_digits_for_one_cell_or_a_run_in_any_order() {
+    let digits = "cell 0 F\ncell 1 0000000f\ncell 2 89abCDEF\ncell 3 0\n";
+    let rows = [
+        (digits, [0xF, 0xF, 0x89AB_CDEF, 0], [0; 4]),
+        ("cell 1-2 A\nmark 0-3 B\n", [0, 0xA, 0xA, 0], [0xB; 4]),
+        ("cell 3-3 A\n", [0, 0, 0, 0xA], [0; 4]),
+        ("cell 0 1\ncell 1-2 2\nmark 0 3\n", [1, 2, 2, 0], [3, 0, 0, 0]),
+        ("mark 0 3\ncell 1-2 2\ncell 0 1\n", [1, 2, 2, 0], [3, 0, 0, 0]),
+    ];
+    for (lines, cells, marks) in rows {
+        let drive = read(&format!("4 60\n{lines}"));
+        assert_eq!((drive.cells(), drive.marks()), (&cells[..], &marks[..]), "{lines}");
+    }
 }

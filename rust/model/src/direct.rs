@@ -1,38 +1,21 @@
 //! Document 01, "Direct commands".
 
-mod refusals;
-
-pub use refusals::applying;
-
 use crate::fuse;
 use crate::lent::Lent;
-use crate::refusal;
+use crate::map::{Map, Part, Size, Word, LIFE_CYCLE};
+use crate::partition::Partition;
+use crate::refusal::{self, Refusal};
 
-/// "Direct commands": "READ, WRITE with a value, or ZEROIZE, each naming a
-/// word", by its first cell.
+/// "READ, WRITE with a value, or ZEROIZE, each naming a word", by its first cell.
 #[derive(Clone, Copy, Debug, PartialEq, Eq)]
+#[allow(missing_docs)]
 pub enum Command {
-    /// READ
-    Read {
-        /// The word's first cell.
-        cell: u32,
-    },
-    /// WRITE
-    Write {
-        /// The word's first cell.
-        cell: u32,
-        /// The value to burn.
-        value: u64,
-    },
-    /// ZEROIZE
-    Zeroize {
-        /// The word's first cell.
-        cell: u32,
-    },
+    Read { cell: u32 },
+    Write { cell: u32, value: u64 },
+    Zeroize { cell: u32 },
 }
 
-/// "Direct commands": "the answer is a word, done, withheld, or refused with
-/// its number".
+/// "the answer is a word, done, withheld, or refused with its number".
 #[derive(Clone, Copy, Debug, PartialEq, Eq)]
 pub enum Answer {
     /// A word; one of 32 bits has zeros above them.
@@ -48,21 +31,9 @@ pub enum Answer {
 impl Command {
     /// "Direct commands": the first cell of the word that the command names.
     pub fn cell(self) -> usize {
-        match self {
-            Command::Read { cell } => cell as usize,
-            Command::Write { cell, .. } => cell as usize,
-            Command::Zeroize { cell } => cell as usize,
-        }
-    }
-
-    /// "Direct commands": the value that the command burns. "ZEROIZE burns all
-    /// ones"; of them, a word of 32 bits takes the low 32.
-    fn burns(self) -> Option<u64> {
-        match self {
-            Command::Read { .. } => None,
-            Command::Write { value, .. } => Some(value),
-            Command::Zeroize { .. } => Some(u64::MAX),
-        }
+        let (Command::Read { cell } | Command::Write { cell, .. } | Command::Zeroize { cell }) =
+            self;
+        cell as usize
     }
 }
 
@@ -81,8 +52,14 @@ fn carry_out(lent: &mut Lent, command: Command) -> Answer {
     let drive = &mut lent.drive;
     let map = drive.map().expect("the map is good");
     let word = map.word_at(command.cell()).expect("the cell starts a word");
-    if let Some(value) = command.burns() {
+    let mut burn = |value| {
         fuse::burn_word(&mut drive.cells, &drive.marks, command.cell(), word.size, value);
+    };
+    match command {
+        Command::Read { .. } => {}
+        Command::Write { value, .. } => burn(value),
+        // "ZEROIZE burns all ones"; of them, a word of 32 bits takes the low 32.
+        Command::Zeroize { .. } => burn(u64::MAX),
     }
     let now_stands = fuse::word(&drive.cells, command.cell(), word.size);
     let reaches_bound = u64::from(now_stands.count_ones()) >= map.bound();
@@ -94,4 +71,54 @@ fn carry_out(lent: &mut Lent, command: Command) -> Answer {
         Command::Zeroize { .. } if secret && !reaches_bound => Answer::Withheld,
         _ => Answer::Word(now_stands),
     }
+}
+
+/// "Refusal numbers": every refusal that applies to the command, each tested by
+/// itself. A test with nothing to go by does not apply: without a good map
+/// there are no words, and without C cells there are no fuses.
+pub fn applying(lent: &Lent, command: Command) -> Vec<Refusal> {
+    let map = lent.drive.map();
+    let word = map.as_ref().and_then(|map| map.word_at(command.cell()));
+    let mut tests = vec![
+        (Refusal::BadMap, map.is_none()),
+        (Refusal::WrongLength, lent.drive.lengths_are_wrong()),
+        (Refusal::NotThere, map.is_some() && word.is_none()),
+    ];
+    if let (Some(map), Some(word)) = (map, word) {
+        let slot = map.entries()[word.partition].slot();
+        let changes = !matches!(command, Command::Read { .. });
+        let fuses = Some(&lent.drive.cells[..]).filter(|cells| cells.len() == map.cells());
+        tests.push((Refusal::MayNotTouch, may_not_touch(fuses, &map, word, command)));
+        tests.push((Refusal::WouldClear, would_clear(fuses, word, command)));
+        // "WRITE, ZEROIZE and erasure on a slot are refused (10) while any place is held."
+        tests.push((Refusal::KeysHeld, changes && slot && lent.cache.any_held()));
+    }
+    refusal::that_apply(tests)
+}
+
+/// The refusals with 8.
+fn may_not_touch(fuses: Option<&[u32]>, map: &Map, word: Word, command: Command) -> bool {
+    let entry = map.entries()[word.partition];
+    let counted = |cells| Partition::of(map, word.partition, cells).counted_as_zeroized();
+    match command {
+        // "Every word of a secret partition is refused (8)."
+        Command::Read { .. } => entry.secret(),
+        // "Refused (8): digest (in kind 1 this is ours), indicator, life cycle, a
+        // partition counted as zeroized, a value over 32 bits for a 32-bit word."
+        Command::Write { value, .. } => {
+            word.part == Part::Digest
+                || word.part == Part::Indicator
+                || entry.kind == LIFE_CYCLE
+                || fuses.map_or(false, counted)
+                || (word.size == Size::Cell && value > 0xFFFF_FFFF)
+        }
+        // "any word of a zeroizable partition, else 8"
+        Command::Zeroize { .. } => !entry.zeroizable(),
+    }
+}
+
+/// "Refused (9): the value lacks a set fuse."
+fn would_clear(fuses: Option<&[u32]>, word: Word, command: Command) -> bool {
+    let set = fuses.map_or(0, |cells| fuse::word(cells, command.cell(), word.size));
+    matches!(command, Command::Write { value, .. } if set & !value != 0)
 }

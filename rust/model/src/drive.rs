@@ -50,8 +50,7 @@ impl Drive {
         let length = u16::try_from(self.image.len()).expect("the map length is a u16");
         let mut input = length.to_le_bytes().to_vec();
         input.extend(&self.image);
-        input.extend(self.cells.iter().flat_map(|cell| cell.to_le_bytes()));
-        input.extend(self.marks.iter().flat_map(|mark| mark.to_le_bytes()));
+        input.extend(self.cells.iter().chain(&self.marks).flat_map(|cell| cell.to_le_bytes()));
         input
     }
 }

@@ -1,16 +1,10 @@
 //! Document 01, "Erasing a partition".
 
-mod order;
-mod refusals;
-
-pub use order::order;
-pub use refusals::applying;
-pub(crate) use refusals::partition_tests;
-
 use crate::cache::Cache;
 use crate::drive::Drive;
 use crate::fuse;
 use crate::lent::Lent;
+use crate::map::{Map, Part, Word};
 use crate::partition::Partition;
 use crate::refusal::{self, Refusal};
 
@@ -66,59 +60,96 @@ pub enum Erasure {
 pub fn erase(before: &Lent, erase: Erase) -> (Erasure, Lent) {
     let mut after = before.clone();
     let erasure = match refusal::lowest(&applying(before, erase)) {
-        Some(number) => {
-            let burns = burn_for_refusal(&mut after.drive, erase.partition, number);
-            Erasure::Refused { number, burns }
+        None => carry_out(&mut after, erase),
+        // "the indicator stays burned, one burn is reported to a library caller,
+        // all else is unchanged"
+        Some(number) if number == Refusal::IndicatorShort.number() => {
+            burn_in_order(&mut after.drive, erase.partition, &[ALL_ONES]);
+            Erasure::Refused { number, burns: 1 }
         }
-        None => carry_out(&mut after, erase).expect("there is such a partition"),
+        Some(number) => Erasure::Refused { number, burns: 0 },
     };
     (erasure, after)
 }
 
-/// "Refusal numbers", 15: "the indicator stays burned, one burn is reported to
-/// a library caller, all else is unchanged". No other refusal burns anything.
-pub(crate) fn burn_for_refusal(drive: &mut Drive, partition: u32, number: u32) -> u32 {
-    if number != Refusal::IndicatorShort.number() {
-        return 0;
-    }
-    burn_in_order(drive, partition, &[ALL_ONES]).map_or(0, |_| 1)
-}
-
-/// "Erasing a partition": an erasure to which no refusal applies; none is for
-/// one without a partition, which is refused.
-pub(crate) fn carry_out(lent: &mut Lent, erase: Erase) -> Option<Erasure> {
-    let words = order(&lent.drive.map()?, erase.partition as usize).len();
+/// "Erasing a partition": an erasure to which no refusal applies.
+fn carry_out(lent: &mut Lent, erase: Erase) -> Erasure {
+    let map = lent.drive.map().expect("the map is good");
+    let partition = erase.partition as usize;
+    let words = order(&map, partition).len();
     // "If the erasure would end before burn k, it runs as uncut."
     let cut = erase.cut.filter(|cut| (cut.k as usize) < words);
     let mut values = vec![ALL_ONES; cut.map_or(words, |cut| cut.k as usize)];
     values.extend(cut.map(|cut| cut.mask));
-    burn_in_order(&mut lent.drive, erase.partition, &values)?;
+    burn_in_order(&mut lent.drive, erase.partition, &values);
     let burns = values.len() as u32;
     if cut.is_some() {
         // "nothing follows and the key cache is empty"
         lent.cache = Cache::default();
-        return Some(Erasure::Cut { burns });
+        return Erasure::Cut { burns };
     }
-    let (short_pairs, first_short) = short_pairs(&lent.drive, erase.partition)?;
-    Some(Erasure::Erased { short_pairs, first_short, burns })
+    let partition = Partition::of(&map, partition, &lent.drive.cells);
+    let first_short = partition.lowest_short_pair().map(|cell| cell as u32);
+    Erasure::Erased { short_pairs: partition.short_pairs() as u32, first_short, burns }
 }
 
-/// "Erasing a partition": "the number of short pairs of the partition and the
-/// first cell of the lowest one". None without such a partition.
-pub(crate) fn short_pairs(drive: &Drive, partition: u32) -> Option<(u32, Option<u32>)> {
-    let map = drive.map_with_cells()?;
-    map.entries().get(partition as usize)?;
-    let partition = Partition::of(&map, partition as usize, &drive.cells);
-    let first = partition.lowest_short_pair().map(|cell| cell as u32);
-    Some((partition.short_pairs() as u32, first))
+/// "Order of burns, all ones each: indicator, data words ascending, digest."
+/// The words with their first cells; none for a partition that is not there,
+/// and no indicator in one that is not zeroizable.
+pub fn order(map: &Map, partition: usize) -> Vec<(usize, Word)> {
+    let cells = map.entries().get(partition).map_or(0..0, |entry| entry.range());
+    let words: Vec<_> = cells.filter_map(|cell| Some((cell, map.word_at(cell)?))).collect();
+    let of = |part| words.iter().filter(move |(_, word)| word.part == part);
+    of(Part::Indicator).chain(of(Part::Data)).chain(of(Part::Digest)).copied().collect()
 }
 
 /// "Erasing a partition": burns these values into the partition's words, one
 /// into each, as far as they reach in the order of burns.
-fn burn_in_order(drive: &mut Drive, partition: u32, values: &[u64]) -> Option<()> {
-    let words = order(&drive.map()?, partition as usize);
-    for ((first, word), value) in words.into_iter().zip(values) {
+fn burn_in_order(drive: &mut Drive, partition: u32, values: &[u64]) {
+    let map = drive.map().expect("the map is good");
+    for ((first, word), value) in order(&map, partition as usize).into_iter().zip(values) {
         fuse::burn_word(&mut drive.cells, &drive.marks, first, word.size, *value);
     }
-    Some(())
+}
+
+/// "Refusal numbers": every refusal that applies to the erasure, each tested by
+/// itself. A test with nothing to go by does not apply: without a good map
+/// there are no partitions, and without C cells and marks nothing is burned.
+pub fn applying(lent: &Lent, erase: Erase) -> Vec<Refusal> {
+    let lengths = [
+        (Refusal::BadMap, lent.drive.map().is_none()),
+        (Refusal::WrongLength, lent.drive.lengths_are_wrong()),
+    ];
+    refusal::that_apply(lengths.into_iter().chain(partition_tests(lent, erase)))
+}
+
+/// "Refusal numbers": the tests that ask about the partition, which FERS has in
+/// common with the erasure.
+pub(crate) fn partition_tests(lent: &Lent, erase: Erase) -> Vec<(Refusal, bool)> {
+    let map = lent.drive.map();
+    let entry = map.as_ref().and_then(|map| map.entries().get(erase.partition as usize));
+    let mut tests = vec![(Refusal::NotThere, map.is_some() && entry.is_none())];
+    if let Some(entry) = entry {
+        // "FERS: not zeroizable"
+        tests.push((Refusal::MayNotTouch, !entry.zeroizable()));
+        // "WRITE, ZEROIZE and erasure on a slot are refused (10) while any place is held."
+        tests.push((Refusal::KeysHeld, entry.slot() && lent.cache.any_held()));
+        // Where the power fails at burn 0, nothing asks whether the indicator is
+        // short, since "it answers only that it was cut".
+        let asked = entry.zeroizable() && erase.cut.map_or(true, |cut| cut.k > 0);
+        tests.push((Refusal::IndicatorShort, asked && short_after_burn(lent, erase)));
+    }
+    tests
+}
+
+/// "indicator short after its burn"; the indicator is what tells whether a
+/// zeroizable partition is counted as zeroized.
+fn short_after_burn(lent: &Lent, erase: Erase) -> bool {
+    let mut drive = lent.drive.clone();
+    if drive.lengths_are_wrong() {
+        return false;
+    }
+    burn_in_order(&mut drive, erase.partition, &[ALL_ONES]);
+    let map = drive.map().expect("the map is good");
+    !Partition::of(&map, erase.partition as usize, &drive.cells).counted_as_zeroized()
 }

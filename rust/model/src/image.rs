@@ -21,14 +21,16 @@ pub struct Image {
 
 impl Image {
     /// "The map of the fuses": the bytes, with zeros from byte 8 up to E.
-    /// Entries at an E below 8 are written over the header.
     pub fn bytes(&self) -> Vec<u8> {
         let partitions = u16::try_from(self.entries.len()).expect("P is a u16");
         let header = [partitions, self.cells, self.bound, self.entries_at];
         let mut bytes: Vec<u8> = header.into_iter().flat_map(u16::to_le_bytes).collect();
         // Filler up to E; an E below 8 cuts the header's end off instead.
         bytes.resize(usize::from(self.entries_at), 0);
-        bytes.extend(self.entries.iter().flat_map(entry_bytes));
+        for entry in &self.entries {
+            bytes.extend([entry.first, entry.n].map(u16::to_le_bytes).concat());
+            bytes.extend([entry.kind, entry.flags, entry.zeros[0], entry.zeros[1]]);
+        }
         bytes
     }
 }
@@ -36,11 +38,4 @@ impl Image {
 /// "The map of the fuses": an entry whose two zero bytes are zero.
 pub fn entry(first: u16, n: u16, kind: u8, flags: u8) -> Entry {
     Entry { first, n, kind, flags, zeros: [0, 0] }
-}
-
-fn entry_bytes(entry: &Entry) -> [u8; 8] {
-    let [first_low, first_high] = entry.first.to_le_bytes();
-    let [n_low, n_high] = entry.n.to_le_bytes();
-    let [zero_6, zero_7] = entry.zeros;
-    [first_low, first_high, n_low, n_high, entry.kind, entry.flags, zero_6, zero_7]
 }

@@ -4,9 +4,12 @@
 use crate::cache::Cache;
 use crate::drive::Drive;
 
-/// What a call finds, or what it leaves. Nothing is checked: any part may have
-/// any length. Direct commands neither see nor change the last two. By default
-/// every part is empty.
+/// "partition count P (1..16)": the most partitions of a map.
+pub const PARTITIONS: usize = 16;
+
+/// What a call finds, or what it leaves, for every call alike: each sees and
+/// changes the parts that are its own. Nothing is checked: any part may have any
+/// length. By default every part is empty or zero.
 #[derive(Clone, Debug, Default, PartialEq, Eq)]
 pub struct Lent {
     /// "Burning and counting": map image, fuse cells and stuck marks.
@@ -17,4 +20,9 @@ pub struct Lent {
     pub block: Vec<u8>,
     /// "Mailbox": the response buffer.
     pub response: Vec<u8>,
+    /// "Burning and counting": where the partitions' states are written, each as
+    /// its place among the four.
+    pub states: [u32; PARTITIONS],
+    /// "Burning and counting": where their numbers of short pairs are written.
+    pub short_pairs: [u32; PARTITIONS],
 }

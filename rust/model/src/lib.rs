@@ -6,6 +6,7 @@
 #![deny(missing_docs)]
 
 pub mod cache;
+pub mod call;
 pub mod direct;
 pub mod drive;
 pub mod erasure;
@@ -17,6 +18,20 @@ pub mod map;
 pub mod partition;
 pub mod reading;
 pub mod refusal;
-pub mod restart;
 pub mod slot;
 pub mod status;
+
+pub use cache::{Cache, PLACES};
+pub use call::{Call, KeyBlock, Model, Said};
+pub use direct::{Answer, Command};
+pub use drive::Drive;
+pub use erasure::{Cut, Erase, Erasure};
+pub use image::{entry, Image, SLOT_FLAGS};
+pub use lent::{Lent, PARTITIONS};
+pub use mailbox::fields::Command as Mail;
+pub use mailbox::request::{Request, Values};
+pub use mailbox::{Order, Reply};
+pub use map::{Entry, Header, Map, Part, Size, Word};
+pub use map::{HARDWARE, LIFE_CYCLE, SECRET, SLOT, SOFTWARE, ZEROIZABLE};
+pub use partition::{Partition, State};
+pub use refusal::Refusal;

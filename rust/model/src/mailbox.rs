@@ -2,45 +2,27 @@
 
 pub mod block;
 pub mod fields;
-mod refusals;
 pub mod request;
 pub mod sum;
 
-pub use refusals::applying;
-
 use crate::cache::Cache;
-use crate::drive::Drive;
-use crate::erasure::{self, Erase};
+use crate::erasure::{self, Erase, Erasure};
 use crate::lent::Lent;
-use crate::{refusal, slot};
+use crate::refusal::{self, Refusal};
+use crate::slot;
+use block::BLOCK_BYTES;
 use fields::{Command, Field};
 use request::Request;
 
 /// "Mailbox": the engine order, "none, or clear with the timeout, or load or
 /// unload with place and timeout".
 #[derive(Clone, Copy, Debug, PartialEq, Eq)]
+#[allow(missing_docs)]
 pub enum Order {
-    /// Nothing for the engine to do.
     None,
-    /// Clear every key.
-    Clear {
-        /// The request's cmd_timeout.
-        timeout: u32,
-    },
-    /// Load a key.
-    Load {
-        /// The place that the tag took.
-        place: u32,
-        /// The request's cmd_timeout.
-        timeout: u32,
-    },
-    /// Unload a key.
-    Unload {
-        /// The place that the tag had.
-        place: u32,
-        /// The request's cmd_timeout.
-        timeout: u32,
-    },
+    Clear { timeout: u32 },
+    Load { place: u32, timeout: u32 },
+    Unload { place: u32, timeout: u32 },
 }
 
 /// "Mailbox": "Besides the response length the answer holds the engine order".
@@ -57,101 +39,134 @@ pub enum Reply {
     },
 }
 
+/// What a command orders, and the response's fields "after reserved".
+type Done = (Order, Vec<u32>);
+
 /// "Mailbox": the reply, and everything lent as the command leaves it.
 pub fn mailbox(before: &Lent, request: &Request) -> (Reply, Lent) {
     let mut after = before.clone();
     let reply = match refusal::lowest(&applying(before, request)) {
-        Some(number) => refuse(&mut after, request, number),
         None => carry_out(&mut after, request).expect("every field of the command is there"),
+        // "Fuses, cache, block and response stay as they were, and the engine order
+        // is none", save what 15, which only FERS can get, leaves.
+        Some(number) => {
+            if number == Refusal::IndicatorShort.number() {
+                erase(&mut after, request);
+            }
+            Reply::Refused(number)
+        }
     };
     (reply, after)
-}
-
-/// "Refusal numbers": "Fuses, cache, block and response stay as they were, and
-/// the engine order is none", save what 15, which only FERS can get, leaves.
-fn refuse(lent: &mut Lent, request: &Request, number: u32) -> Reply {
-    if let Some(partition) = request.partition() {
-        erasure::burn_for_refusal(&mut lent.drive, partition, number);
-    }
-    Reply::Refused(number)
 }
 
 /// "Mailbox": a request to which no refusal applies; none is for a request
 /// without its fields, which is refused.
 fn carry_out(lent: &mut Lent, request: &Request) -> Option<Reply> {
-    let command = request.command()?;
-    let order = match command {
+    let (order, fields) = match request.command()? {
         Command::Clkc => clear(lent, request)?,
         Command::Klod => load(lent, request)?,
         Command::Kunl => unload(lent, request)?,
         Command::Fers => erase(lent, request)?,
-        Command::Fsta => Order::None,
+        Command::Fsta => status(lent)?,
     };
-    let response = response(command, &lent.drive, order, request);
+    // "every response chksum, fips_status (0), reserved (0)"
+    let mut response = vec![0; 12];
+    response.extend(fields.into_iter().flat_map(u32::to_le_bytes));
+    let chksum = sum::response_chksum(&response);
+    sum::put_chksum(&mut response, chksum);
     // "Response bytes past the response keep their values."
     lent.response[..response.len()].copy_from_slice(&response);
     Some(Reply::Accepted { length: response.len(), order })
 }
 
-/// "CLKC empties it too."
-fn clear(lent: &mut Lent, request: &Request) -> Option<Order> {
+/// CLKC: "clear; block all zero". "CLKC empties it too", the cache.
+fn clear(lent: &mut Lent, request: &Request) -> Option<Done> {
     lent.cache = Cache::default();
-    lent.block = block::clear().to_vec();
-    Some(Order::Clear { timeout: request.timeout()? })
+    lent.block = vec![0; BLOCK_BYTES];
+    Some((Order::Clear { timeout: request.number(Field::CmdTimeout)? }, vec![]))
 }
 
-/// "A load takes the lowest empty place, freed ones included."
-fn load(lent: &mut Lent, request: &Request) -> Option<Order> {
-    let tag = request.tag()?;
+/// KLOD answers its place: "the lowest empty place, freed ones included".
+fn load(lent: &mut Lent, request: &Request) -> Option<Done> {
+    let (tag, timeout) = (request.tag()?, request.number(Field::CmdTimeout)?);
     let place = lent.cache.lowest_empty()?;
     lent.cache.places[place] = Some(tag);
-    lent.block = block::load(request.mek()?, tag).to_vec();
-    Some(Order::Load { place: place as u32, timeout: request.timeout()? })
+    lent.block = block::load(request.find(Field::Mek)?, tag);
+    let place = place as u32;
+    Some((Order::Load { place, timeout }, vec![place]))
 }
 
-/// "KUNL frees the lowest place that holds its tag."
-fn unload(lent: &mut Lent, request: &Request) -> Option<Order> {
-    let tag = request.tag()?;
+/// KUNL: "as load with MEK zero". "KUNL frees the lowest place that holds its tag."
+fn unload(lent: &mut Lent, request: &Request) -> Option<Done> {
+    let (tag, timeout) = (request.tag()?, request.number(Field::CmdTimeout)?);
     let place = lent.cache.lowest_holding(tag)?;
     lent.cache.places[place] = None;
-    lent.block = block::unload(tag).to_vec();
-    Some(Order::Unload { place: place as u32, timeout: request.timeout()? })
+    lent.block = block::load(&[0; 64], tag);
+    Some((Order::Unload { place: place as u32, timeout }, vec![]))
 }
 
-/// "Uncut and cut erasures, FERS among them, are one run".
-fn erase(lent: &mut Lent, request: &Request) -> Option<Order> {
-    erasure::carry_out(lent, Erase { partition: request.partition()?, cut: None })?;
-    Some(Order::None)
+/// FERS answers "short pairs, first short cell". "Uncut and cut erasures, FERS
+/// among them, are one run". None if the erasure is refused.
+fn erase(lent: &mut Lent, request: &Request) -> Option<Done> {
+    let partition = request.number(Field::Partition)?;
+    let (erasure, after) = erasure::erase(lent, Erase { partition, cut: None });
+    *lent = after;
+    match erasure {
+        Erasure::Erased { short_pairs, first_short, .. } => {
+            Some((Order::None, vec![short_pairs, first_short.unwrap_or(0xFFFF_FFFF)]))
+        }
+        _ => None,
+    }
 }
 
-/// "Mailbox": the response's fields, each "little-endian u32", with the chksum.
-fn response(command: Command, drive: &Drive, order: Order, request: &Request) -> Vec<u8> {
-    let (short_pairs, first_short) = short_pairs(drive, request).unwrap_or((0, None));
-    let field = |field: &Field| match (field, order) {
-        (Field::Place, Order::Load { place, .. }) => place,
-        (Field::ShortPairs, _) => short_pairs,
-        (Field::FirstShortCell, _) => first_short.unwrap_or(0xFFFF_FFFF),
-        (Field::ActiveSlot, _) => active_slot(drive).map_or(0xFFFF_FFFF, |number| number as u32),
-        (Field::HekAvailable, _) => u32::from(hek_available(drive)),
-        // fips_status and reserved are 0; the chksum is put in below.
-        _ => 0,
-    };
-    let value = |listed| field(listed).to_le_bytes();
-    let mut response: Vec<u8> = command.response_fields().iter().flat_map(value).collect();
-    let chksum = sum::response_chksum(&response);
-    sum::put_chksum(&mut response, chksum);
-    response
+/// FSTA answers "active slot's partition or 0xFFFFFFFF, HEK available 1 or 0".
+fn status(lent: &Lent) -> Option<Done> {
+    let (map, cells) = (lent.drive.map()?, &lent.drive.cells);
+    let active = slot::active_slot(&map, cells).map_or(0xFFFF_FFFF, |number| number as u32);
+    Some((Order::None, vec![active, slot::hek_available(&map, cells).into()]))
 }
 
-/// Of the partition that FERS names, as it now stands.
-fn short_pairs(drive: &Drive, request: &Request) -> Option<(u32, Option<u32>)> {
-    erasure::short_pairs(drive, request.partition()?)
+/// "Refusal numbers": every refusal that applies to the request, each tested by
+/// itself. A test with nothing to go by does not apply: an unknown code has no
+/// length, a request that ends too early lacks the field, and the HEK is not
+/// looked for without a good map and C cells.
+pub fn applying(lent: &Lent, request: &Request) -> Vec<Refusal> {
+    let command = request.command();
+    let exact = |command: Command| fields::length(command.request_fields());
+    let not_its_length = |command| request.bytes.len() != exact(command);
+    let wrong = |chksum| chksum != request.right_chksum();
+    let mut tests = vec![
+        (Refusal::BadMap, lent.drive.map().is_none()),
+        (Refusal::WrongLength, lengths_are_wrong(lent)),
+        (Refusal::UnknownCode, command.is_none()),
+        (Refusal::RequestLength, command.map_or(false, not_its_length)),
+        (Refusal::WrongChksum, request.chksum().map_or(false, wrong)),
+        (Refusal::ReservedNotZero, request.reserved().map_or(false, |reserved| reserved != 0)),
+    ];
+    if let Some(partition) = request.number(Field::Partition) {
+        tests.extend(erasure::partition_tests(lent, Erase { partition, cut: None }));
+    }
+    let held = request.tag().map(|tag| lent.cache.lowest_holding(tag).is_some());
+    match command {
+        Some(Command::Klod) => tests.extend([
+            (Refusal::HekNotAvailable, hek_is_missing(lent)),
+            (Refusal::TagHeld, held == Some(true)),
+            (Refusal::NoEmptyPlace, lent.cache.lowest_empty().is_none()),
+        ]),
+        Some(Command::Kunl) => tests.push((Refusal::TagNotHeld, held == Some(false))),
+        _ => {}
+    }
+    refusal::that_apply(tests)
 }
 
-fn active_slot(drive: &Drive) -> Option<usize> {
-    slot::active_slot(&drive.map()?, &drive.cells)
+/// "cells or marks not C long; for the mailbox also block not 128 or response
+/// buffer under 20 bytes"
+fn lengths_are_wrong(lent: &Lent) -> bool {
+    lent.drive.lengths_are_wrong() || lent.block.len() != BLOCK_BYTES || lent.response.len() < 20
 }
 
-fn hek_available(drive: &Drive) -> bool {
-    drive.map().map_or(false, |map| slot::hek_available(&map, &drive.cells))
+/// "HEK not available"
+fn hek_is_missing(lent: &Lent) -> bool {
+    let drive = &lent.drive;
+    drive.map_with_cells().map_or(false, |map| !slot::hek_available(&map, &drive.cells))
 }

@@ -13,7 +13,8 @@ pub struct Partition<'a> {
     cells: &'a [u32],
 }
 
-/// "Burning and counting": "Its state is one of four".
+/// "Burning and counting": "Its state is one of four", whose places, from 0, are
+/// the numbers that C is told.
 #[derive(Clone, Copy, Debug, PartialEq, Eq)]
 pub enum State {
     /// "counted as zeroized, no pair short"
@@ -56,20 +57,13 @@ impl<'a> Partition<'a> {
 
     /// "Burning and counting": the state.
     pub fn state(&self) -> State {
-        let counted = self.counted_as_zeroized();
-        if counted && self.short_pairs() == 0 {
-            State::Erased
-        } else if counted {
-            State::Torn
-        } else if self.data().iter().all(|cell| *cell == 0) {
-            State::Blank
-        } else {
-            State::Programmed
+        let data = &self.cells[..self.entry.data_cells()];
+        match (self.counted_as_zeroized(), self.short_pairs()) {
+            (true, 0) => State::Erased,
+            (true, _) => State::Torn,
+            (false, _) if data.iter().all(|cell| *cell == 0) => State::Blank,
+            (false, _) => State::Programmed,
         }
-    }
-
-    fn data(&self) -> &'a [u32] {
-        &self.cells[..self.entry.data_cells()]
     }
 
     fn pairs(&self) -> impl Iterator<Item = [u32; 2]> + 'a {
@@ -77,14 +71,10 @@ impl<'a> Partition<'a> {
     }
 }
 
-/// "The small drive": the names as the status program prints them.
+/// "The small drive": the names as the status program prints them, those above
+/// in small letters.
 impl fmt::Display for State {
     fn fmt(&self, f: &mut fmt::Formatter) -> fmt::Result {
-        f.write_str(match self {
-            State::Erased => "erased",
-            State::Torn => "torn",
-            State::Blank => "blank",
-            State::Programmed => "programmed",
-        })
+        f.write_str(&format!("{self:?}").to_lowercase())
     }
 }

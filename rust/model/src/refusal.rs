@@ -4,59 +4,43 @@
 #[derive(Clone, Copy, Debug, PartialEq, Eq)]
 pub enum Refusal {
     /// "map breaks a rule above"
-    BadMap,
+    BadMap = 1,
     /// "cells or marks not C long; for the mailbox also block not 128 or
     /// response buffer under 20 bytes"; in the status program ("The small
     /// drive") also a length or a map that is cut short
-    WrongLength,
+    WrongLength = 2,
     /// "unknown code"
-    UnknownCode,
+    UnknownCode = 3,
     /// "request not its exact length"
-    RequestLength,
+    RequestLength = 4,
     /// "wrong chksum"
-    WrongChksum,
+    WrongChksum = 5,
     /// "reserved not zero"
-    ReservedNotZero,
+    ReservedNotZero = 6,
     /// "no such partition, or the cell starts no word"
-    NotThere,
+    NotThere = 7,
     /// "the command may not touch it (FERS: not zeroizable)"
-    MayNotTouch,
+    MayNotTouch = 8,
     /// "WRITE would clear a fuse"
-    WouldClear,
+    WouldClear = 9,
     /// "slot change while keys are held"
-    KeysHeld,
+    KeysHeld = 10,
     /// "KLOD, HEK not available"
-    HekNotAvailable,
+    HekNotAvailable = 11,
     /// "KLOD, tag held already"
-    TagHeld,
+    TagHeld = 12,
     /// "KLOD, no empty place"
-    NoEmptyPlace,
+    NoEmptyPlace = 13,
     /// "KUNL, tag not held"
-    TagNotHeld,
+    TagNotHeld = 14,
     /// "indicator short after its burn", the one that leaves something changed
-    IndicatorShort,
+    IndicatorShort = 15,
 }
 
 impl Refusal {
     /// "Refusal numbers": the first column.
     pub fn number(self) -> u32 {
-        match self {
-            Refusal::BadMap => 1,
-            Refusal::WrongLength => 2,
-            Refusal::UnknownCode => 3,
-            Refusal::RequestLength => 4,
-            Refusal::WrongChksum => 5,
-            Refusal::ReservedNotZero => 6,
-            Refusal::NotThere => 7,
-            Refusal::MayNotTouch => 8,
-            Refusal::WouldClear => 9,
-            Refusal::KeysHeld => 10,
-            Refusal::HekNotAvailable => 11,
-            Refusal::TagHeld => 12,
-            Refusal::NoEmptyPlace => 13,
-            Refusal::TagNotHeld => 14,
-            Refusal::IndicatorShort => 15,
-        }
+        self as u32
     }
 }
 

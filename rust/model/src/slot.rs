@@ -11,8 +11,7 @@ pub fn active_slot(map: &Map, cells: &[u32]) -> Option<usize> {
     (0..map.entries().len()).find(|number| is_slot(*number) && !erased(*number))
 }
 
-/// "Active slot and key cache": "The HEK is available when there is one and it
-/// is programmed."
+/// "The HEK is available when there is one and it is programmed."
 pub fn hek_available(map: &Map, cells: &[u32]) -> bool {
     let programmed = |number| Partition::of(map, number, cells).state() == State::Programmed;
     active_slot(map, cells).map_or(false, programmed)

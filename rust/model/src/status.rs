@@ -1,12 +1,10 @@
 //! Document 01, the end of "The small drive": the status program.
 
+use crate::mailbox::request::number;
 use crate::map::Map;
 use crate::partition::Partition;
 use crate::refusal::Refusal;
 use crate::slot;
-
-/// "The small drive": "the length is over 256".
-const LONGEST_MAP: usize = 256;
 
 /// "The small drive": what the status program prints for this standard input.
 pub fn output(input: &[u8]) -> Vec<u8> {
@@ -25,7 +23,7 @@ fn read(input: &[u8]) -> Result<(Map, Vec<u32>), Refusal> {
         [low, high, rest @ ..] => (usize::from(u16::from_le_bytes([*low, *high])), rest),
         _ => return Err(Refusal::WrongLength),
     };
-    if length > LONGEST_MAP {
+    if length > 256 {
         return Err(Refusal::BadMap);
     }
     if rest.len() < length {
@@ -36,13 +34,12 @@ fn read(input: &[u8]) -> Result<(Map, Vec<u32>), Refusal> {
     if rest.len() != 4 * map.cells() + 4 * map.cells() {
         return Err(Refusal::WrongLength);
     }
-    let cells = numbers(&rest[..4 * map.cells()]);
+    let cells = rest.chunks_exact(4).map(number).take(map.cells()).collect();
     Ok((map, cells))
 }
 
-/// "The small drive": "a header, one line per partition (number, cells, state,
-/// short pairs), then `hek` and the active slot's partition if the HEK is
-/// available, else `none`".
+/// "a header, one line per partition (number, cells, state, short pairs), then
+/// `hek` and the active slot's partition if the HEK is available, else `none`".
 fn table(map: &Map, cells: &[u32]) -> String {
     let mut text = String::from("part cells state short\n");
     for (number, entry) in map.entries().iter().enumerate() {
@@ -50,17 +47,8 @@ fn table(map: &Map, cells: &[u32]) -> String {
         let (state, short) = (partition.state(), partition.short_pairs());
         text += &format!("{number} {} {state} {short}\n", entry.n);
     }
-    text + &hek_line(map, cells)
-}
-
-fn hek_line(map: &Map, cells: &[u32]) -> String {
     match slot::active_slot(map, cells) {
-        Some(number) if slot::hek_available(map, cells) => format!("hek {number}\n"),
-        _ => String::from("hek none\n"),
+        Some(number) if slot::hek_available(map, cells) => text + &format!("hek {number}\n"),
+        _ => text + "hek none\n",
     }
-}
-
-fn numbers(bytes: &[u8]) -> Vec<u32> {
-    let number = |b: &[u8]| u32::from_le_bytes([b[0], b[1], b[2], b[3]]);
-    bytes.chunks_exact(4).map(number).collect()
 }

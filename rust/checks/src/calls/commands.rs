@@ -1,24 +1,13 @@
-//! Generated direct commands, most of them on words that are there.
+//! Generated direct commands and erasures, most of them on words and partitions that are there.
 
 use crate::random::Random;
-use model::direct::Command;
-use model::drive::Drive;
-use model::fuse;
-use model::map::{Map, Part, Size};
-
-pub fn read(random: &mut Random, drive: &Drive) -> Command {
-    Command::Read { cell: cell(random, drive) }
-}
-
-pub fn zeroize(random: &mut Random, drive: &Drive) -> Command {
-    Command::Zeroize { cell: cell(random, drive) }
-}
+use model::erasure::order;
+use model::{fuse, Command, Cut, Drive, Entry, Map, Part, Size};
 
 /// A WRITE, most of them of a value made from what the word holds.
 pub fn write(random: &mut Random, drive: &Drive) -> Command {
-    let cell = cell(random, drive);
+    let (cell, any) = (cell(random, drive), random.bits());
     let word = drive.map_with_cells().and_then(|map| map.word_at(cell as usize));
-    let any = random.bits();
     let value = match word {
         Some(word) => value(random, fuse::word(&drive.cells, cell as usize, word.size), word.size),
         None => random.pick(&[0, 1, u64::MAX, any]),
@@ -44,18 +33,14 @@ fn value(random: &mut Random, set: u64, size: Size) -> u64 {
     value
 }
 
-/// A cell: mostly one that starts a word, now and then any other.
-fn cell(random: &mut Random, drive: &Drive) -> u32 {
-    let map = match drive.map() {
-        Some(map) if !random.one_in(12) => map,
-        _ => return any_cell(random, drive.cells.len()),
-    };
-    let cell = cell_of_a_word(random, &map);
-    // One step further: the high half of a pair, or the next software cell.
-    if random.one_in(16) {
-        cell + 1
-    } else {
-        cell
+/// A cell: mostly one that starts a word, now and then one step further, which is
+/// the high half of a pair or the next software cell, or any other.
+pub fn cell(random: &mut Random, drive: &Drive) -> u32 {
+    match drive.map() {
+        Some(map) if !random.one_in(12) => {
+            cell_of_a_word(random, &map) + u32::from(random.one_in(16))
+        }
+        _ => random.around(drive.cells.len()),
     }
 }
 
@@ -71,17 +56,47 @@ fn cell_of_a_word(random: &mut Random, map: &Map) -> u32 {
     random.pick(if fitting.is_empty() { &words } else { &fitting }) as u32
 }
 
-/// Any cell, among them ones around the end, and ones that are another cell in
-/// fewer bits.
-fn any_cell(random: &mut Random, cells: usize) -> u32 {
-    let inside = random.below(cells.max(1)) as u32;
-    let end = cells as u32;
-    let any = random.cell();
-    let near = [inside, inside | 1, end.saturating_sub(1), end, end + 1, end + 2, 2048];
-    let far = [inside + 0x100, inside + 0x1_0000, inside + 0x8000_0000, u32::MAX, any];
-    if random.one_in(2) {
-        random.pick(&near)
-    } else {
-        random.pick(&far)
+/// A partition: mostly one that is zeroizable, now and then any other, one that
+/// is not there, or one that is another in fewer bits.
+pub fn partition(random: &mut Random, drive: &Drive) -> u32 {
+    let map = drive.map();
+    let entries: &[Entry] = map.as_ref().map_or(&[], |map| map.entries());
+    if entries.is_empty() || random.one_in(8) {
+        return random.around(entries.len());
     }
+    let zeroizable = (0..).zip(entries).filter(|(_, entry)| entry.zeroizable());
+    let fitting: Vec<u32> = zeroizable.map(|(number, _)| number).collect();
+    if fitting.is_empty() || random.one_in(8) {
+        random.below(entries.len()) as u32
+    } else {
+        random.pick(&fitting)
+    }
+}
+
+/// A cut of this partition's erasure: at any of its burns, the first more often
+/// than the others, or past the last one.
+pub fn cut_of(random: &mut Random, drive: &Drive, partition: u32) -> Cut {
+    let map = drive.map();
+    let burns = map.as_ref().map_or(0, |map| order(map, partition as usize).len());
+    let bound = map.map_or(60, |map| map.bound() as u32);
+    let (inside, last) = (random.below(burns.max(1)) as u32, (burns as u32).saturating_sub(1));
+    let past = burns as u32 + random.pick(&[0, 0, 1, 2, 64]);
+    let around = random.around(burns);
+    let k = random.pick(&[0, 0, 0, 1, 1, inside, inside, inside, last, last, past, around]);
+    Cut { k, mask: mask(random, bound) }
+}
+
+/// No fuse, all, the low ones up to any number or around the bound, a single
+/// one, half of them, or any.
+fn mask(random: &mut Random, bound: u32) -> u64 {
+    let (any, single) = (random.bits(), 1 << random.below(64));
+    let (low, near) = (random.below(65) as u32, bound - 1 + random.below(2) as u32);
+    let around = [low_bits(low), low_bits(near), low_bits(near).rotate_left(low), single, !single];
+    let others = [0, u64::MAX, 0xFFFF_FFFF, 0xFFFF_FFFF_0000_0000, any];
+    random.pick(&[around, others].concat())
+}
+
+/// A mask of so many low bits, 64 at most.
+pub fn low_bits(count: u32) -> u64 {
+    u64::MAX.checked_shr(64 - count).unwrap_or(0)
 }

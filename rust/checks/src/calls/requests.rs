@@ -1,56 +1,49 @@
-//! Generated requests, right ones and ones with some things wrong.
+//! Generated requests of the mailbox, right ones and ones with some things wrong, and its buffers.
 
 use crate::random::Random;
-use model::mailbox::fields::Command;
-use model::mailbox::request::{Request, Values};
+use model::mailbox::block::BLOCK_BYTES;
 use model::mailbox::sum;
+use model::{Mail, Request, Values};
 
-/// What is wrong with a request.
-struct Wrong {
-    code: bool,
-    length: bool,
-    chksum: bool,
-    reserved: bool,
-}
+/// What is wrong with a request: its code, its length, its chksum, its reserved.
+type Wrong = [bool; 4];
 
 /// A request of this command with a tag of these and this partition, one in
 /// four with something wrong.
-pub fn generated(random: &mut Random, command: Command, tags: &[u64], partition: u32) -> Request {
+pub fn generated(random: &mut Random, command: Mail, tags: &[u64], partition: u32) -> Request {
     let values = Values { partition, ..good_values(random, tags) };
     let spoiled = random.one_in(4);
-    let mut wrong = || spoiled && random.one_in(3);
-    let wrong = Wrong { code: wrong(), length: wrong(), chksum: wrong(), reserved: wrong() };
+    let wrong = [(); 4].map(|()| spoiled && random.one_in(3));
     request(random, command, values, wrong)
 }
 
 /// FERS of this partition with nothing wrong.
 pub fn fers(partition: u32) -> Request {
-    Request::of(Command::Fers, &Values { partition, ..Values::default() })
+    Request::of(Mail::Fers, &Values { partition, ..Values::default() })
 }
 
 /// FERS of this partition with anything wrong but the code, or nothing.
 pub fn spoiled_fers(random: &mut Random, partition: u32) -> Request {
     let values = Values { partition, ..Values::default() };
-    let mut wrong = || random.one_in(2);
-    let wrong = Wrong { code: false, length: wrong(), chksum: wrong(), reserved: wrong() };
-    request(random, Command::Fers, values, wrong)
+    let [length, chksum, reserved] = [(); 3].map(|()| random.one_in(2));
+    request(random, Mail::Fers, values, [false, length, chksum, reserved])
 }
 
-fn request(random: &mut Random, command: Command, mut values: Values, wrong: Wrong) -> Request {
-    if wrong.reserved {
+fn request(random: &mut Random, command: Mail, mut values: Values, wrong: Wrong) -> Request {
+    let [code, length, chksum, reserved] = wrong;
+    if reserved {
         values.reserved = random.pick(&[1, 0x100, 0x8000_0000, 0xFFFF_FFFF]);
     }
     let right = Request::of(command, &values);
     let mut request = right.clone();
-    if wrong.code {
+    if code {
         request.code = wrong_code(random, command);
     }
-    if wrong.length {
-        let length = wrong_length(random, right.bytes.len());
-        let filler = random.pick(&[0, 0xFF]);
+    if length {
+        let (length, filler) = (wrong_length(random, right.bytes.len()), random.pick(&[0, 0xFF]));
         request.bytes.resize(length, filler);
     }
-    put_chksum(random, &mut request, &right, wrong.chksum);
+    put_chksum(random, &mut request, &right, chksum);
     request
 }
 
@@ -63,9 +56,9 @@ fn good_values(random: &mut Random, tags: &[u64]) -> Values {
 }
 
 /// Another code: of no command, or of another one.
-fn wrong_code(random: &mut Random, command: Command) -> u32 {
+fn wrong_code(random: &mut Random, command: Mail) -> u32 {
     let code = command.code();
-    let other = random.pick(&Command::ALL).code();
+    let other = random.pick(&Mail::ALL).code();
     let any = random.cell();
     random.pick(&[code.swap_bytes(), code ^ 1, code ^ 0x2000_0000, 0, any, other, other])
 }
@@ -82,22 +75,25 @@ fn put_chksum(random: &mut Random, request: &mut Request, unspoiled: &Request, w
     if request.bytes.len() < 4 {
         return;
     }
-    let right = request.right_chksum();
-    let without_code = sum::response_chksum(&request.bytes);
-    let stale = unspoiled.right_chksum();
-    let any = random.cell();
-    let wrongs = [
-        right.wrapping_add(1),
-        right.wrapping_sub(1),
-        without_code,
-        without_code,
-        stale,
-        right.wrapping_neg(),
-        right.swap_bytes(),
-        right ^ 0x8000_0000,
-        0,
-        any,
-    ];
+    let (right, any) = (request.right_chksum(), random.cell());
+    let (without_code, stale) = (sum::response_chksum(&request.bytes), unspoiled.right_chksum());
+    let near = [right.wrapping_add(1), right.wrapping_sub(1), without_code, without_code, stale];
+    let far = [right.wrapping_neg(), right.swap_bytes(), right ^ 0x8000_0000, 0, any];
+    let wrongs = [near, far].concat();
     let chksum = if wrong { random.pick(&wrongs) } else { right };
     sum::put_chksum(&mut request.bytes, chksum);
+}
+
+/// A block and a response buffer of right lengths, which hold anything.
+pub fn buffers(random: &mut Random) -> (Vec<u8>, Vec<u8>) {
+    let length = random.pick(&[20, 20, 20, 21, 24, 40]);
+    (random.bytes(BLOCK_BYTES), random.bytes(length))
+}
+
+/// Makes the block longer or shorter, or the response buffer too short.
+pub fn damage_buffers(random: &mut Random, block: &mut Vec<u8>, response: &mut Vec<u8>) {
+    match random.below(2) {
+        0 => block.resize(random.pick(&[0, 64, 127, 129, 256]), 0xBB),
+        _ => response.resize(random.pick(&[0, 8, 12, 16, 19]), 0xAA),
+    }
 }

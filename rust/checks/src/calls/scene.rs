@@ -1,92 +1,61 @@
 //! What a sequence of calls plays on: a drive, a cache and a choice of tags,
 //! with the calls that come one after the other.
 
-use super::call::Call;
-use super::{buffers, commands, erasures, requests};
+use super::{commands, requests};
 use crate::random::Random;
 use crate::{drives, maps};
-use model::cache::{Cache, PLACES};
-use model::drive::Drive;
-use model::lent::Lent;
-use model::mailbox::fields::Command;
+use model::direct::Command::{Read, Zeroize};
+use model::{Cache, Call, Drive, Erase, Lent, Mail, PARTITIONS, PLACES};
 
 const SEED: u64 = 0x5EED_0C11_0016_0128;
 const TAGS: usize = 24;
 
-/// How often each command is called, in parts of the sum.
-struct Mood {
-    read: usize,
-    write: usize,
-    zeroize: usize,
-    erase: usize,
-    cut: usize,
-    restart: usize,
-    clear: usize,
-    load: usize,
-    unload: usize,
-    erase_by_mailbox: usize,
-    status: usize,
-}
+/// How often each call is made, in parts of the sum: fields, states, place; READ,
+/// WRITE, ZEROIZE; erasure, cut erasure, restart; then the mailbox commands in the
+/// order of the document's table, CLKC, KLOD, KUNL, FERS, FSTA.
+type Mood = [usize; 14];
 
-/// Many loads, which fill the cache.
-const LOADS: Mood = Mood {
-    read: 4,
-    write: 8,
-    zeroize: 6,
-    erase: 1,
-    cut: 1,
-    restart: 1,
-    clear: 1,
-    load: 40,
-    unload: 12,
-    erase_by_mailbox: 1,
-    status: 5,
-};
-/// Many burns of single words.
-const BURNS: Mood =
-    Mood { read: 12, write: 40, zeroize: 16, clear: 4, load: 4, unload: 4, status: 8, ..LOADS };
-/// Some of each.
-const MIXED: Mood = Mood {
-    read: 10,
-    write: 20,
-    zeroize: 12,
-    erase: 2,
-    cut: 2,
-    restart: 2,
-    clear: 2,
-    load: 20,
-    erase_by_mailbox: 2,
-    status: 8,
-    ..LOADS
-};
-/// Many erasures, with loads between them.
-const ERASURES: Mood =
-    Mood { erase: 10, cut: 30, restart: 6, load: 10, unload: 4, erase_by_mailbox: 20, ..LOADS };
+const MOODS: [Mood; 4] = [
+    // Many loads, which fill the cache.
+    [4, 4, 2, 4, 8, 6, 1, 1, 1, 1, 40, 12, 1, 5],
+    // Many burns of single words.
+    [4, 4, 2, 12, 40, 16, 1, 1, 1, 4, 4, 4, 1, 8],
+    // Some of each.
+    [4, 4, 2, 10, 20, 12, 2, 2, 2, 2, 20, 12, 2, 8],
+    // Many erasures, with loads between them.
+    [4, 4, 2, 4, 8, 6, 10, 30, 6, 1, 10, 4, 20, 5],
+];
 
 /// A sequence of calls, made again by its number alone.
 pub struct Scene {
     random: Random,
-    mood: &'static Mood,
+    mood: Mood,
     tags: Vec<u64>,
-    /// What the last call left; the next one gets other buffers.
+    /// What the last call left; the next one gets other buffers and arrays.
     lent: Lent,
     /// How many calls the sequence has.
     pub calls: usize,
 }
 
 impl Scene {
-    pub fn numbered(number: usize) -> Scene {
+    /// On a drive that is changed first.
+    pub fn on(number: usize, change: impl Fn(&mut Random, &mut Drive)) -> Scene {
         let mut random = Random::numbered(SEED, number);
-        let mood = random.pick(&[&LOADS, &BURNS, &MIXED, &ERASURES]);
+        let mood = random.pick(&MOODS);
         let tags = tags(&mut random);
         let cache = cache(&mut random, &tags);
-        let drive = drive(&mut random);
+        let mut drive = drive(&mut random);
+        change(&mut random, &mut drive);
         let calls = random.between(60, 120);
         Scene { random, mood, tags, lent: Lent { drive, cache, ..Lent::default() }, calls }
     }
 
-    /// The next call with what it is lent. Some calls find something damaged,
-    /// for them alone.
+    /// The drive as it stands, with nothing damaged for a call.
+    pub fn drive(&self) -> &Drive {
+        &self.lent.drive
+    }
+
+    /// The next call with what it is lent. Some calls find something damaged, for them alone.
     pub fn next_call(&mut self) -> (Call, Lent) {
         let call = self.call();
         let mut lent = self.lent(&call);
@@ -99,9 +68,8 @@ impl Scene {
         (call, lent)
     }
 
-    /// Goes on from what a call left, unless the call was lent something
-    /// damaged, which may have had a good map of its own. Damaged marks are the
-    /// call's alone.
+    /// Goes on from what a call left, unless the call was lent something damaged, which may have
+    /// had a good map of its own. Damaged marks are the call's alone.
     pub fn go_on(&mut self, mut after: Lent) {
         let drive = &mut self.lent.drive;
         let same_lengths = after.drive.cells.len() == drive.cells.len();
@@ -112,34 +80,54 @@ impl Scene {
     }
 
     fn call(&mut self) -> Call {
-        let Mood { read, write, zeroize, erase, cut, restart, .. } = *self.mood;
-        let Mood { clear, load, unload, erase_by_mailbox, status, .. } = *self.mood;
-        let by_mailbox = [clear, load, unload, erase_by_mailbox, status];
         let (random, drive) = (&mut self.random, &self.lent.drive);
-        let others = by_mailbox.iter().sum();
-        match random.weighted(&[read, write, zeroize, erase, cut, restart, others]) {
-            0 => Call::Direct(commands::read(random, drive)),
-            1 => Call::Direct(commands::write(random, drive)),
-            2 => Call::Direct(commands::zeroize(random, drive)),
-            3 => Call::Erase(erasures::uncut(random, drive)),
-            4 => Call::Erase(erasures::cut(random, drive)),
-            5 => Call::Restart,
-            _ => {
-                // The table of the document has the commands in this order.
-                let command = Command::ALL[random.weighted(&by_mailbox)];
-                let partition = erasures::partition(random, drive);
+        match random.weighted(&self.mood) {
+            0 => {
+                let there = drive.map().map_or(0, |map| map.entries().len());
+                Call::Partition(mostly_below(random, there))
+            }
+            1 => Call::States,
+            2 => Call::Place(mostly_below(random, PLACES)),
+            3 => Call::Direct(Read { cell: commands::cell(random, drive) }),
+            4 => Call::Direct(commands::write(random, drive)),
+            5 => Call::Direct(Zeroize { cell: commands::cell(random, drive) }),
+            chosen @ (6 | 7) => {
+                let partition = commands::partition(random, drive);
+                let cut = (chosen == 7).then(|| commands::cut_of(random, drive, partition));
+                Call::Erase(Erase { partition, cut })
+            }
+            8 => Call::Restart,
+            mailbox => {
+                let partition = commands::partition(random, drive);
+                let command = Mail::ALL[mailbox - 9];
                 Call::Mailbox(requests::generated(random, command, &self.tags, partition))
             }
         }
     }
 
-    /// What a call is lent; only the mailbox has a block and a response buffer.
+    /// What a call is lent. The mailbox alone has a block and a response buffer,
+    /// and the states alone have arrays; all hold anything, so that whatever is
+    /// written, or should not have been, shows.
     fn lent(&mut self, call: &Call) -> Lent {
-        let (block, response) = match call {
-            Call::Mailbox(_) => buffers::of_right_lengths(&mut self.random),
-            _ => (vec![], vec![]),
-        };
-        Lent { block, response, ..self.lent.clone() }
+        let mut lent = Lent { block: vec![], response: vec![], ..self.lent.clone() };
+        match call {
+            Call::Mailbox(_) => (lent.block, lent.response) = requests::buffers(&mut self.random),
+            Call::States => {
+                let mut array = || [(); PARTITIONS].map(|()| self.random.cell());
+                (lent.states, lent.short_pairs) = (array(), array());
+            }
+            _ => {}
+        }
+        lent
+    }
+}
+
+/// A number below the count, or one in three around it or past it.
+fn mostly_below(random: &mut Random, count: usize) -> u32 {
+    if random.one_in(3) {
+        random.around(count)
+    } else {
+        random.below(count.max(1)) as u32
     }
 }
 
@@ -172,18 +160,19 @@ fn cache(random: &mut Random, tags: &[u64]) -> Cache {
     Cache { places }
 }
 
-/// Most drives are small. A few are large, or have a bad map or wrong lengths.
+/// Most drives are small. A few are large, have any number of partitions of any
+/// length, or have a bad map or wrong lengths.
 fn drive(random: &mut Random) -> Drive {
     let way = random.below(50);
     let image = match way {
-        0 => maps::largest(random).bytes(),
-        1 => {
-            let small = maps::small(random);
-            maps::damaged_from(random, small)
-        }
-        _ => maps::small(random).bytes(),
+        0 => maps::largest(random),
+        3..=6 => maps::compact(random),
+        7 => maps::longest(random),
+        8 => maps::good(random),
+        _ => maps::small(random),
     };
-    let mut drive = drives::to_burn(random, image);
+    let bytes = if way == 1 { maps::damaged(random, image) } else { image.bytes() };
+    let mut drive = drives::to_burn(random, bytes);
     if way == 2 {
         drives::damage_lengths(random, &mut drive);
     }
@@ -193,9 +182,8 @@ fn drive(random: &mut Random) -> Drive {
 /// Damages one thing that is lent.
 fn damage(random: &mut Random, lent: &mut Lent) {
     match random.below(4) {
-        0 if !lent.drive.image.is_empty() => maps::damage_bytes(random, &mut lent.drive.image),
-        1 => buffers::damage_block(random, &mut lent.block),
-        2 => buffers::damage_response(random, &mut lent.response),
+        0 => maps::damage_bytes(random, &mut lent.drive.image),
+        1 | 2 => requests::damage_buffers(random, &mut lent.block, &mut lent.response),
         _ => drives::damage_lengths(random, &mut lent.drive),
     }
 }

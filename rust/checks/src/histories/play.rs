@@ -1,13 +1,13 @@
-//! A history played on a key block.
+//! A history played on a key block, and what is to be met in the attempts of
+//! generated histories, so that a clause which is no longer asked for anything,
+//! or a generator which has become trivial, is noticed.
 
-use super::clauses;
-use super::tally::HistoryTally;
-use super::{Attempt, History};
-use crate::calls::{difference, Call, KeyBlock, Proved, Said};
-use crate::cores;
+use super::{clauses, Attempt, History};
+use crate::calls::difference;
 use crate::layout::Layout;
-use model::erasure::{Cut, Erase};
-use model::lent::Lent;
+use crate::proved::Proved;
+use crate::tally::{self, Row, Tally};
+use model::{Call, Cut, Erase, KeyBlock, Lent, Model, Said};
 use std::collections::BTreeSet;
 
 /// An attempt as it was played.
@@ -16,31 +16,180 @@ pub struct Step<'a> {
     pub history: &'a History,
     /// The partition in the map, if map and lengths are right and it is there.
     pub partition: Option<Layout>,
-    /// The call.
     pub call: &'a Call,
     /// "each call gets the cells and cache that the one before left"
     pub before: Lent,
-    /// What the call said.
     pub said: Said,
-    /// What it left.
     pub after: Lent,
     /// The cut, if the attempt was cut, by the call and the order of burns; of
     /// what it said only a refusal counts.
     pub cut: Option<Cut>,
-    /// Of an uncut attempt: what "the same call, same request and buffer
-    /// lengths, made alone from the starting cells and an empty cache" says and
-    /// leaves.
+    /// Of an uncut attempt: what "the same call, same request and buffer lengths, made alone from
+    /// the starting cells and an empty cache" says and leaves.
     pub alone: Option<(Said, Lent)>,
     /// Whether the attempt was accepted and ran uncut to its end: one that is
     /// neither refused nor cut has to have.
     pub completes: bool,
-    /// Whether one has so far, this one or one before.
+    /// What the attempts before this one did.
+    pub past: Past,
+}
+
+/// What some attempt has done.
+pub struct Past {
+    pub cut: bool,
+    pub torn: bool,
     pub completed: bool,
 }
 
-/// "A cut erasure that is refused, or whose order ends before burn k, is uncut."
-/// Without a partition there is no order. An attempt that names no cut is uncut
-/// too, whatever it says.
+/// The refusals that an attempt can get; a slot is never refused with 10, since
+/// no key is ever held.
+const REFUSALS: [u32; 8] = [1, 2, 4, 5, 6, 7, 8, 15];
+
+type Sight = fn(&Step) -> bool;
+
+/// Things that are to happen though no clause names them.
+const SIGHTS: &[Row<Sight>] = &[
+    ("erased by the library's call", |s| s.completes && s.call.name() == "erasure"),
+    ("erased by FERS", |s| s.completes && s.call.name() == "FERS"),
+    ("erased by a cut past the end", |s| s.completes && s.call.name() == "cut erasure"),
+    ("erased with a short pair", |s| s.completes && s.leaves(Layout::some_short)),
+    ("erased with the indicator at B", |s| s.completes && s.past_bound() == Some(0)),
+    ("erased after a cut", |s| s.completes && s.past.cut),
+    ("erased after a cut that tore it", |s| s.completes && s.past.torn),
+    ("erased again", |s| s.completes && s.past.completed),
+    ("cut at the indicator", |s| s.cut_at(|k, _| k == 0)),
+    ("cut at a data word", |s| s.cut_at(|k, digest| 0 < k && k < digest)),
+    ("cut at the digest", |s| s.cut_at(|k, digest| k == digest)),
+    ("cut that tore it", |s| s.cut.is_some() && s.tears()),
+    ("cut that burned the indicator in part and left it short", |s| {
+        s.cut.is_some() && s.burns_indicator() && !s.leaves(Layout::counted)
+    }),
+    ("cut that set no fuse", |s| s.cut.is_some() && s.before.drive.cells == s.after.drive.cells),
+    ("cut after it was erased", |s| s.cut.is_some() && s.past.completed),
+    ("15 with the indicator at B - 1", |s| {
+        s.said.refusal() == Some(15) && s.past_bound() == Some(-1)
+    }),
+    ("15 by FERS", |s| s.said.refusal() == Some(15) && s.call.name() == "FERS"),
+    ("15 after a cut", |s| s.said.refusal() == Some(15) && s.past.cut),
+    ("refused up to 8 after a cut", |s| {
+        s.past.cut && s.said.refusal().map_or(false, |number| number <= 8)
+    }),
+    ("restart after a cut", |s| s.past.cut && s.is_restart()),
+];
+
+/// Everything that a run has to meet: each clause asked for something, each refusal, each sight.
+pub fn possible() -> Vec<String> {
+    let refusals = REFUSALS.into_iter().map(refused);
+    tally::names(clauses::ALL).into_iter().chain(tally::names(SIGHTS)).chain(refusals).collect()
+}
+
+fn refused(number: u32) -> String {
+    format!("refused with {number}")
+}
+
+impl Step<'_> {
+    /// The keys of all that is met.
+    pub fn met(&self) -> Vec<String> {
+        let mut met = tally::that_hold(clauses::ALL, |clause| clause(self).is_some());
+        met.extend(tally::that_hold(SIGHTS, |holds| holds(self)));
+        met.extend(self.said.refusal().map(refused));
+        met
+    }
+
+    /// The cells at the start of the history.
+    pub fn start(&self) -> &[u32] {
+        &self.history.start.cells
+    }
+
+    /// The cells as the attempt left them.
+    pub fn cells(&self) -> &[u32] {
+        &self.after.drive.cells
+    }
+
+    pub fn is_restart(&self) -> bool {
+        matches!(self.call, Call::Restart)
+    }
+
+    fn leaves(&self, holds: fn(&Layout, &[u32]) -> bool) -> bool {
+        self.partition.as_ref().map_or(false, |p| holds(p, self.cells()))
+    }
+
+    /// By how many ones the indicator passes the bound.
+    fn past_bound(&self) -> Option<i64> {
+        self.partition.as_ref().map(|p| p.past_bound(self.cells()))
+    }
+
+    /// Whether this holds of a cut's k and of the number of the digest's burn.
+    fn cut_at(&self, holds: fn(usize, usize) -> bool) -> bool {
+        let at = self.partition.as_ref().zip(self.cut);
+        at.map_or(false, |(p, cut)| holds(cut.k as usize, p.order().len() - 1))
+    }
+
+    fn burns_indicator(&self) -> bool {
+        let before = &self.before.drive.cells;
+        let changed = |p: &Layout| before[p.indicator()] != self.cells()[p.indicator()];
+        self.partition.as_ref().map_or(false, changed)
+    }
+
+    /// Whether the attempt left the partition torn, and did not find it so.
+    fn tears(&self) -> bool {
+        let torn_before = |p: &Layout| p.torn(&self.before.drive.cells);
+        self.leaves(Layout::torn) && !self.partition.as_ref().map_or(false, torn_before)
+    }
+}
+
+/// Plays the histories numbered from 0 up to `count` on the proved key block, on all cores, and
+/// fails the test where a clause does not hold or a call is not the model's.
+pub fn all_hold(count: usize, history: impl Fn(usize) -> History + Sync) -> Tally {
+    Tally::over(count, |tally, number| {
+        let history = history(number);
+        let steps = play(&history, &mut Proved);
+        for (place, step) in steps.iter().enumerate() {
+            let clause = clauses::broken(step).into_iter().next();
+            if let Some(found) = clause.or_else(|| unlike_model(step)) {
+                let call = step.call;
+                panic!("history {number}, attempt {place}, {call}: {found}\n{history:X?}");
+            }
+        }
+        tally.add(steps.iter().flat_map(Step::met));
+    })
+}
+
+/// The clauses that do not hold somewhere in a history, whatever the model says.
+pub fn broken_clauses(history: &History, block: &mut impl KeyBlock) -> BTreeSet<String> {
+    play(history, block).iter().flat_map(clauses::broken).collect()
+}
+
+/// Plays the attempts one after the other.
+fn play<'a>(history: &'a History, block: &mut impl KeyBlock) -> Vec<Step<'a>> {
+    let whole = Layout::of(&history.start, history.partition);
+    let mut left = start(history);
+    let mut steps: Vec<Step> = Vec::new();
+    for attempt in &history.attempts {
+        let call = &attempt.call;
+        let before = lent(left, attempt);
+        let mut after = before.clone();
+        let said = block.answer(&mut after, call);
+        let cut = cut(call, said, whole.as_ref());
+        let uncut = cut.is_none() && !matches!(call, Call::Restart);
+        let alone = uncut.then(|| alone(history, attempt, block));
+        let completes = uncut && said.refusal().is_none();
+        left = after.clone();
+        let past = Past {
+            cut: steps.iter().any(|step| step.cut.is_some()),
+            torn: steps.iter().any(|step| step.cut.is_some() && step.tears()),
+            completed: steps.iter().any(|step| step.completes),
+        };
+        let partition = whole.clone();
+        let step =
+            Step { history, partition, call, before, said, after, cut, alone, completes, past };
+        steps.push(step);
+    }
+    steps
+}
+
+/// "A cut erasure that is refused, or whose order ends before burn k, is uncut." Without a
+/// partition there is no order. An attempt that names no cut is uncut too, whatever it says.
 fn cut(call: &Call, said: Said, partition: Option<&Layout>) -> Option<Cut> {
     let named = match call {
         Call::Erase(Erase { cut, .. }) => cut.filter(|_| said.refusal().is_none())?,
@@ -50,71 +199,6 @@ fn cut(call: &Call, said: Said, partition: Option<&Layout>) -> Option<Cut> {
     ((named.k as usize) < burns).then_some(named)
 }
 
-/// Plays the histories numbered from 0 up to `count` on the proved key block, on
-/// all cores, and fails the test where a clause does not hold or a call is not
-/// the model's.
-pub fn all_hold(count: usize, history: impl Fn(usize) -> History + Sync) -> HistoryTally {
-    let piece = |tally: &mut HistoryTally, number| {
-        let history = history(number);
-        if let Some(wrong) = check(&history, &Proved, tally) {
-            panic!("history {number}, {wrong}\n{history:X?}");
-        }
-    };
-    cores::share(count, piece, HistoryTally::merge)
-}
-
-/// Plays a history, counts what happened in it, and gives what is wrong with
-/// it: the first clause that does not hold, or the first call that is not the
-/// model's.
-fn check(history: &History, block: &impl KeyBlock, tally: &mut HistoryTally) -> Option<String> {
-    let steps = play(history, block);
-    tally.add(&steps);
-    let wrong = |(number, step): (usize, &Step)| {
-        let clause = clauses::broken(step).next().map(str::to_string);
-        let found = clause.or_else(|| unlike_model(step))?;
-        Some(format!("attempt {number}, {}: {found}", step.call))
-    };
-    steps.iter().enumerate().find_map(wrong)
-}
-
-/// The clauses that do not hold somewhere in a history, whatever the model says.
-pub fn broken_clauses(history: &History, block: &impl KeyBlock) -> BTreeSet<&'static str> {
-    play(history, block).iter().flat_map(clauses::broken).collect()
-}
-
-/// Plays the attempts one after the other.
-fn play<'a>(history: &'a History, block: &impl KeyBlock) -> Vec<Step<'a>> {
-    let whole = Layout::of(&history.start, history.partition);
-    let mut left = start(history);
-    let mut completed = false;
-    let mut steps = Vec::new();
-    for attempt in &history.attempts {
-        let (call, partition) = (&attempt.call, whole.clone());
-        let before = lent(left, attempt);
-        let mut after = before.clone();
-        let said = call.by(block, &mut after);
-        let cut = cut(call, said, partition.as_ref());
-        let uncut = cut.is_none() && !call.is_restart();
-        let alone = uncut.then(|| alone(history, attempt, block));
-        let completes = uncut && said.refusal().is_none();
-        completed |= completes;
-        left = after.clone();
-        steps.push(Step {
-            history,
-            partition,
-            call,
-            before,
-            said,
-            after,
-            cut,
-            alone,
-            completes,
-            completed,
-        });
-    }
-    steps
-}
-
 /// The drive at the start, and nothing kept yet.
 fn start(history: &History) -> Lent {
     Lent { drive: history.start.clone(), ..Lent::default() }
@@ -122,21 +206,23 @@ fn start(history: &History) -> Lent {
 
 /// What an attempt is lent: what the one before left, and buffers of its own.
 fn lent(left: Lent, attempt: &Attempt) -> Lent {
-    Lent { block: attempt.block.clone(), response: attempt.response.clone(), ..left }
+    let (block, response) = attempt.buffers.clone();
+    Lent { block, response, ..left }
 }
 
 /// The attempt made alone. Of the buffers only the lengths are the same, so
 /// every byte of them is another one.
-fn alone(history: &History, attempt: &Attempt, block: &impl KeyBlock) -> (Said, Lent) {
+fn alone(history: &History, attempt: &Attempt, block: &mut impl KeyBlock) -> (Said, Lent) {
     let mut lent = lent(start(history), attempt);
     let bytes = lent.block.iter_mut().chain(&mut lent.response);
     bytes.for_each(|byte| *byte = !*byte);
-    let said = attempt.call.by(block, &mut lent);
+    let said = block.answer(&mut lent, &attempt.call);
     (said, lent)
 }
 
 /// The first thing in which a step is not the model's.
 fn unlike_model(step: &Step) -> Option<String> {
-    let (said, expected) = step.call.by_model(&step.before);
+    let mut expected = step.before.clone();
+    let said = Model.answer(&mut expected, step.call);
     difference((said, &expected), (step.said, &step.after))
 }

@@ -16,9 +16,6 @@ pub const SECRET: u8 = 2;
 /// "The map of the fuses": flag 4, HEK slot.
 pub const SLOT: u8 = 4;
 
-/// Bytes of an entry.
-const ENTRY_BYTES: usize = 8;
-
 /// "The map of the fuses": "Header, four u16", little-endian.
 #[derive(Clone, Copy, Debug, PartialEq, Eq)]
 pub struct Header {
@@ -66,21 +63,14 @@ impl Entry {
     /// not lie wholly in the image are left out; the length rule reports them.
     pub fn read_all(image: &[u8], header: &Header) -> Vec<Entry> {
         let entries = image.get(usize::from(header.entries_at)..).unwrap_or(&[]);
-        entries
-            .chunks_exact(ENTRY_BYTES)
-            .take(usize::from(header.partitions))
-            .map(Entry::from_bytes)
-            .collect()
-    }
-
-    fn from_bytes(bytes: &[u8]) -> Entry {
-        Entry {
+        let entry = |bytes: &[u8]| Entry {
             first: u16_at(bytes, 0),
             n: u16_at(bytes, 2),
             kind: bytes[4],
             flags: bytes[5],
             zeros: [bytes[6], bytes[7]],
-        }
+        };
+        entries.chunks_exact(8).take(usize::from(header.partitions)).map(entry).collect()
     }
 
     /// "The map of the fuses": the partition's cells in the whole array.

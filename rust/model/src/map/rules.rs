@@ -2,101 +2,70 @@
 
 use super::fields::{Entry, Header, HARDWARE, LIFE_CYCLE, SECRET, SLOT, ZEROIZABLE};
 
-/// "The map of the fuses": its rules, in the order of its sentences.
-#[derive(Clone, Copy, Debug, PartialEq, Eq)]
-pub enum Rule {
-    /// "partition count P (1..16)"
-    PartitionCount,
-    /// "cell count C (4..2,048)"
-    CellCount,
-    /// "bound B (33..64)"
-    Bound,
-    /// "offset E of the entries (8..128)"
-    EntriesOffset,
-    /// "Bytes 8 up to E are zero."
-    Filler,
-    /// "The image is exactly E + 8P long."
-    Length,
-    /// "u8 kind (0 hardware, 1 software, 2 life cycle)"
-    Kind,
-    /// "u8 flags (...; higher bits zero)"
-    HigherFlags,
-    /// "two zero bytes"
-    EntryZeros,
-    /// "First and n are even", the first half of it
-    FirstEven,
-    /// "First and n are even", the second half of it
-    CellsEven,
-    /// "n is at least 4"
-    AtLeastFour,
-    /// "at least 6 if zeroizable"
-    AtLeastSixIfZeroizable,
-    /// "Entries ascend"
-    Ascending,
-    /// "without overlap"
-    NoOverlap,
-    /// "and end by C"
-    EndByC,
-    /// "Life cycle is never zeroizable"
-    LifeCycleNotZeroizable,
-    /// "Secret needs kind 0"
-    SecretIsHardware,
-    /// "a slot must be zeroizable"
-    SlotIsZeroizable,
-    /// "and secret"
-    SlotIsSecret,
+/// One list for the rules: the document's words, the rule's name, and the test
+/// whether it holds of an image with this header and these entries.
+macro_rules! rules {
+    (
+        ($image:ident, $header:ident, $entries:ident)
+        $($(#[$words:meta])* $name:ident => $test:expr,)*
+    ) => {
+        /// "The map of the fuses": its rules, in the order of its sentences.
+        #[derive(Clone, Copy, Debug, PartialEq, Eq)]
+        pub enum Rule { $($(#[$words])* $name,)* }
+
+        impl Rule {
+            /// "The map of the fuses": all rules, in the order of its sentences.
+            pub const ALL: [Rule; 20] = [$(Rule::$name,)*];
+
+            fn holds(self, $image: &[u8], $header: &Header, $entries: &[Entry]) -> bool {
+                match self { $(Rule::$name => $test,)* }
+            }
+        }
+    };
 }
 
-impl Rule {
-    /// "The map of the fuses": all rules, in the order of its sentences.
-    pub const ALL: [Rule; 20] = [
-        Rule::PartitionCount,
-        Rule::CellCount,
-        Rule::Bound,
-        Rule::EntriesOffset,
-        Rule::Filler,
-        Rule::Length,
-        Rule::Kind,
-        Rule::HigherFlags,
-        Rule::EntryZeros,
-        Rule::FirstEven,
-        Rule::CellsEven,
-        Rule::AtLeastFour,
-        Rule::AtLeastSixIfZeroizable,
-        Rule::Ascending,
-        Rule::NoOverlap,
-        Rule::EndByC,
-        Rule::LifeCycleNotZeroizable,
-        Rule::SecretIsHardware,
-        Rule::SlotIsZeroizable,
-        Rule::SlotIsSecret,
-    ];
-
-    fn holds(self, image: &[u8], header: &Header, entries: &[Entry]) -> bool {
-        let every = |rule: fn(&Entry) -> bool| entries.iter().all(rule);
-        match self {
-            Rule::PartitionCount => (1..=16).contains(&header.partitions),
-            Rule::CellCount => (4..=2048).contains(&header.cells),
-            Rule::Bound => (33..=64).contains(&header.bound),
-            Rule::EntriesOffset => (8..=128).contains(&header.entries_at),
-            Rule::Filler => filler(image, header).iter().all(|byte| *byte == 0),
-            Rule::Length => image.len() == length(header),
-            Rule::Kind => every(|e| e.kind <= LIFE_CYCLE),
-            Rule::HigherFlags => every(|e| e.flags & !(ZEROIZABLE | SECRET | SLOT) == 0),
-            Rule::EntryZeros => every(|e| e.zeros == [0, 0]),
-            Rule::FirstEven => every(|e| e.first % 2 == 0),
-            Rule::CellsEven => every(|e| e.n % 2 == 0),
-            Rule::AtLeastFour => every(|e| e.n >= 4),
-            Rule::AtLeastSixIfZeroizable => every(|e| !e.zeroizable() || e.n >= 6),
-            Rule::Ascending => entries.windows(2).all(|e| e[0].first < e[1].first),
-            Rule::NoOverlap => no_overlap(entries),
-            Rule::EndByC => entries.iter().all(|e| e.range().end <= header.cells.into()),
-            Rule::LifeCycleNotZeroizable => every(|e| e.kind != LIFE_CYCLE || !e.zeroizable()),
-            Rule::SecretIsHardware => every(|e| !e.secret() || e.kind == HARDWARE),
-            Rule::SlotIsZeroizable => every(|e| !e.slot() || e.zeroizable()),
-            Rule::SlotIsSecret => every(|e| !e.slot() || e.secret()),
-        }
-    }
+rules! {
+    (image, header, entries)
+    /// "partition count P (1..16)"
+    PartitionCount => (1..=16).contains(&header.partitions),
+    /// "cell count C (4..2,048)"
+    CellCount => (4..=2048).contains(&header.cells),
+    /// "bound B (33..64)"
+    Bound => (33..=64).contains(&header.bound),
+    /// "offset E of the entries (8..128)"
+    EntriesOffset => (8..=128).contains(&header.entries_at),
+    /// "Bytes 8 up to E are zero."
+    Filler => image.iter().take(header.entries_at.into()).skip(8).all(|byte| *byte == 0),
+    /// "The image is exactly E + 8P long."
+    Length => image.len() == usize::from(header.entries_at) + 8 * usize::from(header.partitions),
+    /// "u8 kind (0 hardware, 1 software, 2 life cycle)"
+    Kind => every(entries, |e| e.kind <= LIFE_CYCLE),
+    /// "u8 flags (...; higher bits zero)"
+    HigherFlags => every(entries, |e| e.flags & !(ZEROIZABLE | SECRET | SLOT) == 0),
+    /// "two zero bytes"
+    EntryZeros => every(entries, |e| e.zeros == [0, 0]),
+    /// "First and n are even", the first half of it
+    FirstEven => every(entries, |e| e.first % 2 == 0),
+    /// "First and n are even", the second half of it
+    CellsEven => every(entries, |e| e.n % 2 == 0),
+    /// "n is at least 4"
+    AtLeastFour => every(entries, |e| e.n >= 4),
+    /// "at least 6 if zeroizable"
+    AtLeastSixIfZeroizable => every(entries, |e| !e.zeroizable() || e.n >= 6),
+    /// "Entries ascend"
+    Ascending => entries.windows(2).all(|e| e[0].first < e[1].first),
+    /// "without overlap"
+    NoOverlap => no_overlap(entries),
+    /// "and end by C"
+    EndByC => entries.iter().all(|e| e.range().end <= header.cells.into()),
+    /// "Life cycle is never zeroizable"
+    LifeCycleNotZeroizable => every(entries, |e| e.kind != LIFE_CYCLE || !e.zeroizable()),
+    /// "Secret needs kind 0"
+    SecretIsHardware => every(entries, |e| !e.secret() || e.kind == HARDWARE),
+    /// "a slot must be zeroizable"
+    SlotIsZeroizable => every(entries, |e| !e.slot() || e.zeroizable()),
+    /// "and secret"
+    SlotIsSecret => every(entries, |e| !e.slot() || e.secret()),
 }
 
 /// "The map of the fuses": every rule the image breaks, in the order of
@@ -112,15 +81,8 @@ pub fn broken_rules(image: &[u8]) -> Vec<Rule> {
     Rule::ALL.into_iter().filter(broken).collect()
 }
 
-/// "The image is exactly E + 8P long."
-fn length(header: &Header) -> usize {
-    usize::from(header.entries_at) + 8 * usize::from(header.partitions)
-}
-
-/// "Bytes 8 up to E", as far as the image has them.
-fn filler<'a>(image: &'a [u8], header: &Header) -> &'a [u8] {
-    let end = usize::from(header.entries_at).min(image.len());
-    image.get(8..end).unwrap_or(&[])
+fn every(entries: &[Entry], rule: fn(&Entry) -> bool) -> bool {
+    entries.iter().all(rule)
 }
 
 /// "without overlap": no cell lies in two partitions, whatever their order.

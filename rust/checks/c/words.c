@@ -1,0 +1,54 @@
+/* Document 01, "The small drive", from C: the direct commands, which the example does not
+ * show, and every field of their answers, of a place, a reply and a refused erasure. */
+#include "sciambrunola.h"
+
+#include <inttypes.h>
+#include <stdio.h>
+
+#define CELLS 12
+#define DRIVE image, sizeof image, cells, CELLS, marks, CELLS, &context
+
+static const uint8_t image[] = {
+    2, 0, 12, 0, 60, 0, 8, 0, /* P, C, B, E */
+    0, 0, 6, 0, 0, 7, 0, 0,   /* entry 0, the slot */
+    6, 0, 6, 0, 1, 0, 0, 0    /* entry 1, software */
+};
+static uint32_t cells[CELLS] = {1};
+static const uint32_t marks[CELLS] = {0, 0, 0, 0, 0, 0x1F};
+static sci_context context = {0};
+
+static void print_answer(const char *name, sci_answer answer)
+{
+    printf("%s: kind %" PRIu32 ", refusal %" PRIu32 ", word %" PRIu64 "\n", name,
+           answer.kind, answer.refusal, answer.word);
+}
+
+int main(void)
+{
+    const uint8_t klod[84] = {0xBC, 0xFE, 0xFF, 0xFF, [8] = 6, [12] = 5, [16] = 7, [20] = 8};
+    uint8_t response[SCI_LEAST_RESPONSE], block[SCI_BLOCK_BYTES];
+    sci_erasure erasure;
+    sci_reply reply;
+    sci_place place;
+    int i;
+    print_answer("READ 0", sci_read(DRIVE, 0));
+    print_answer("WRITE 7", sci_write(DRIVE, 7, 0x89));
+    print_answer("READ 7", sci_read(DRIVE, 7));
+    print_answer("WRITE 0", sci_write(DRIVE, 0, 5));
+    print_answer("ZEROIZE 4", sci_zeroize(DRIVE, 4));
+    print_answer("ZEROIZE 6", sci_zeroize(DRIVE, 6));
+    erasure = sci_erase(DRIVE, 0);
+    printf("erasure: kind %" PRIu32 ", refusal %" PRIu32 ", short %" PRIu32 ", first %" PRIu32
+           ", burns %" PRIu32 "\n", erasure.kind, erasure.refusal, erasure.short_pairs,
+           erasure.first_short, erasure.burns);
+    for (i = 0; i < 2; i++) {
+        reply = sci_mailbox(DRIVE, SCI_KLOD, klod, sizeof klod, response, sizeof response, block,
+                            sizeof block);
+        printf("KLOD: refusal %" PRIu32 ", length %" PRIu32 ", order %" PRIu32 ", place %" PRIu32
+               ", timeout %" PRIu32 "\n", reply.refusal, reply.length, reply.order, reply.place,
+               reply.timeout);
+    }
+    place = sci_cache_place(&context, 0);
+    printf("place 0: kind %" PRIu32 ", tag %" PRIX64 "\n", place.kind, place.tag);
+    return 0;
+}

@@ -1,0 +1,161 @@
+//! The archive as C calls it, each function by its address and its arguments as words,
+//! on a painted stack: the safe Rust calls keep an answer's other numbers on refusal, the
+//! arrays past the map's partitions and the numbers of a place to themselves, and have
+//! frames of their own.
+
+use crate::context;
+use crate::painted::left_by_c;
+use model::{
+    Answer, Call, Command, Cut, Drive, Erase, Erasure, KeyBlock, Lent, Order, Reply, Request, Said,
+};
+use sciambrunola::{Context, NO_CELL};
+
+/// The proved key block, with the paint of its stack.
+#[derive(Default)]
+pub struct Archive {
+    pub paint: u8,
+    /// What the last call left below its arguments.
+    pub stack: Vec<u8>,
+}
+
+// As the header declares them, but for their parameters: their addresses are taken.
+extern "C" {
+    fn sci_partition();
+    fn sci_states();
+    fn sci_cache_place();
+    fn sci_read();
+    fn sci_write();
+    fn sci_zeroize();
+    fn sci_erase();
+    fn sci_erase_cut();
+    fn sci_restart();
+    fn sci_mailbox();
+}
+
+type Function = unsafe extern "C" fn();
+
+/// A place in the archive's code.
+pub fn code() -> u64 {
+    sci_write as *const () as u64
+}
+
+impl Archive {
+    /// Calls a function, and gives the numbers of the struct that it answers. One of more
+    /// than two words is written where the first argument says.
+    ///
+    /// # Safety
+    /// The arguments are those that the header asks for.
+    unsafe fn call(&mut self, function: Function, mut words: Vec<u64>, large: bool) -> [u32; 8] {
+        // What a call does not write shows.
+        let mut told = [0xDEAD_BEEF; 8];
+        if large {
+            words.insert(0, told.as_mut_ptr() as u64);
+        }
+        let (registers, stack) = left_by_c(self.paint, function as *const (), &words);
+        if !large {
+            let halves = registers.map(|word| [word as u32, (word >> 32) as u32]);
+            told[..4].copy_from_slice(&halves.concat());
+        }
+        self.stack = stack;
+        told
+    }
+}
+
+impl KeyBlock for Archive {
+    fn answer(&mut self, lent: &mut Lent, call: &Call) -> Said {
+        let mut context = context::of(lent);
+        let (function, words) = arguments(lent, &mut context, call);
+        let large = matches!(call, Call::Partition(_) | Call::Erase(_) | Call::Mailbox(_));
+        // SAFETY: every pointer is that of a part of `lent`, of the context or of the
+        // request, which outlive the call and overlap nowhere; where the header asks for a count, it follows.
+        let told = unsafe { self.call(function, words, large) };
+        context::take_back(lent, &context);
+        said(call, told)
+    }
+}
+
+/// What C is told of a place of this context: its kind and its tag.
+pub fn place(context: &Context, number: u32) -> Said {
+    let words = vec![context as *const Context as u64, number.into()];
+    // SAFETY: the pointer is that of a borrowed context, which is only read.
+    let told = unsafe { Archive::default().call(sci_cache_place, words, false) };
+    said(&Call::Place(number), told)
+}
+
+/// The function of a call, and its arguments in the header's order.
+fn arguments(lent: &mut Lent, context: &mut Context, call: &Call) -> (Function, Vec<u64>) {
+    let Lent { drive: Drive { image, cells, marks }, response, block, .. } = lent;
+    let drive = [
+        image.as_ptr() as u64,
+        image.len() as u64,
+        cells.as_mut_ptr() as u64,
+        cells.len() as u64,
+        marks.as_ptr() as u64,
+        marks.len() as u64,
+        context as *mut Context as u64,
+    ];
+    // What stands above the 32 bits of a number is nobody's.
+    let low = |number: &u32| u64::from(*number) | 0xDEAD_BEEF << 32;
+    let with = |words: &[u64], more: &[u64]| [words, more].concat();
+    match call {
+        Call::Partition(number) => (sci_partition, with(&drive[..2], &[low(number)])),
+        Call::States => {
+            let lists = [lent.states.as_mut_ptr() as u64, lent.short_pairs.as_mut_ptr() as u64];
+            (sci_states, with(&drive[..6], &lists))
+        }
+        Call::Place(number) => (sci_cache_place, with(&drive[6..], &[low(number)])),
+        Call::Direct(Command::Read { cell }) => (sci_read, with(&drive, &[low(cell)])),
+        Call::Direct(Command::Write { cell, value }) => {
+            (sci_write, with(&drive, &[low(cell), *value]))
+        }
+        Call::Direct(Command::Zeroize { cell }) => (sci_zeroize, with(&drive, &[low(cell)])),
+        Call::Erase(Erase { partition, cut: None }) => (sci_erase, with(&drive, &[low(partition)])),
+        Call::Erase(Erase { partition, cut: Some(Cut { k, mask }) }) => {
+            (sci_erase_cut, with(&drive, &[low(partition), low(k), *mask]))
+        }
+        Call::Mailbox(Request { code, bytes }) => {
+            let request = [low(code), bytes.as_ptr() as u64, bytes.len() as u64];
+            let response = [response.as_mut_ptr() as u64, response.len() as u64];
+            let block = [block.as_mut_ptr() as u64, block.len() as u64];
+            (sci_mailbox, [&drive[..], &request, &response, &block].concat())
+        }
+        Call::Restart => (sci_restart, drive[6..].to_vec()),
+    }
+}
+
+/// The answer by the numbers of its struct. What the header says to be 0 has to be.
+fn said(call: &Call, told: [u32; 8]) -> Said {
+    let order = |order, place, timeout| match order {
+        0 if (place, timeout) == (0, 0) => Order::None,
+        1 if place == 0 => Order::Clear { timeout },
+        2 => Order::Load { place, timeout },
+        3 => Order::Unload { place, timeout },
+        _ => panic!("{call} is answered {told:X?}"),
+    };
+    let word = |low, high| u64::from(low) | u64::from(high) << 32;
+    match (call, told) {
+        (Call::Partition(_), _) => Said::Fields(told),
+        // Between a place's kind and its tag are four bytes of no meaning.
+        (Call::Place(_), [kind, _, low, high, ..]) => Said::Place([kind.into(), word(low, high)]),
+        (Call::States, [refusal, partitions, ..]) => Said::Listing([refusal, partitions]),
+        (Call::Restart, _) => Said::Nothing,
+        (Call::Direct(_), [0, 0, low, high, ..]) => Said::Answer(Answer::Word(word(low, high))),
+        (Call::Direct(_), [1, 0, 0, 0, ..]) => Said::Answer(Answer::Done),
+        (Call::Direct(_), [2, 0, 0, 0, ..]) => Said::Answer(Answer::Withheld),
+        (Call::Direct(_), [3, number, 0, 0, ..]) => Said::Answer(Answer::Refused(number)),
+        (Call::Erase(_), [0, 0, short_pairs, first, burns, ..]) => {
+            let first_short = (first != NO_CELL).then_some(first);
+            Said::Erasure(Erasure::Erased { short_pairs, first_short, burns })
+        }
+        (Call::Erase(_), [1, 0, 0, 0, burns, ..]) => Said::Erasure(Erasure::Cut { burns }),
+        (Call::Erase(_), [2, number, 0, 0, burns, ..]) => {
+            Said::Erasure(Erasure::Refused { number, burns })
+        }
+        (Call::Mailbox(_), [0, length, which, place, timeout, ..]) => {
+            let (length, order) = (length as usize, order(which, place, timeout));
+            Said::Reply(Reply::Accepted { length, order })
+        }
+        (Call::Mailbox(_), [number, 0, 0, 0, 0, ..]) => Said::Reply(Reply::Refused(number)),
+        _ => panic!("{call} is answered {told:X?}"),
+    }
+}

@@ -1,0 +1,293 @@
+//! What is to be met in generated calls: each outcome of each call, each pair of
+//! refusals that can apply to one call, and sights that no outcome names.
+
+use crate::layout::Layout;
+use crate::tally::{self, Row};
+use model::{
+    fuse, Answer, Call, Command, Cut, Entry, Erase, Erasure, Lent, Order, Part, Partition, Refusal,
+    Reply, Said, Size, Word, LIFE_CYCLE,
+};
+
+/// What each call can come to when it is carried out, and its refusals. The states
+/// come to any number of partitions.
+const OUTCOMES: [(&str, &[&str], &[u32]); 15] = [
+    ("fields", &KINDS_AND_FLAGS, &[1, 7]),
+    ("states", &[], &[1, 2]),
+    ("place", &["empty", "held"], &[]),
+    ("READ", &["word"], &[1, 2, 7, 8]),
+    ("WRITE", &["word", "done"], &[1, 2, 7, 8, 9, 10]),
+    ("ZEROIZE", &["word", "withheld"], &[1, 2, 7, 8, 10]),
+    ("erasure", &["erased"], &[1, 2, 7, 8, 10, 15]),
+    ("cut erasure", &["cut", "erased"], &[1, 2, 7, 8, 10, 15]),
+    ("restart", &["nothing"], &[]),
+    ("CLKC", &["clear"], &[1, 2, 4, 5, 6]),
+    ("KLOD", &["load"], &[1, 2, 4, 5, 6, 11, 12, 13]),
+    ("KUNL", &["unload"], &[1, 2, 4, 5, 6, 14]),
+    ("FERS", &["none"], &[1, 2, 4, 5, 6, 7, 8, 10, 15]),
+    ("FSTA", &["none"], &[1, 2, 4, 5, 6]),
+    ("other", &[], &[1, 2, 3]),
+];
+
+/// The kinds and flags that a partition of a good map can have.
+const KINDS_AND_FLAGS: [&str; 8] = ["0/0", "0/1", "0/2", "0/3", "0/7", "1/0", "1/1", "2/0"];
+
+/// The refusals that can apply to one call together with a higher one.
+const PAIRS: [(u32, &[u32]); 11] = [
+    (1, &[2, 3, 4, 5, 6, 12, 13, 14]),
+    (2, &[3, 4, 5, 6, 7, 8, 9, 10, 11, 12, 13, 14, 15]),
+    (3, &[5, 6]),
+    (4, &[5, 6, 7, 8, 10, 11, 12, 13, 14, 15]),
+    (5, &[6, 7, 8, 10, 11, 12, 13, 14, 15]),
+    (6, &[7, 8, 10, 11, 12, 13, 14, 15]),
+    (8, &[9, 10]),
+    (9, &[10]),
+    (10, &[15]),
+    (11, &[12, 13]),
+    (12, &[13]),
+];
+
+/// Whether a WRITE of a value may not touch a word.
+type Reason = fn(&Named, u64) -> bool;
+
+/// Each is to be met alone.
+const REASONS: &[Row<Reason>] = &[
+    ("the digest", |named, _| named.word.part == Part::Digest),
+    ("the indicator", |named, _| named.word.part == Part::Indicator),
+    ("life cycle", |named, _| named.entry.kind == LIFE_CYCLE),
+    ("counted as zeroized", |named, _| named.counted),
+    ("over 32 bits", |named, value| named.word.size == Size::Cell && value > 0xFFFF_FFFF),
+];
+
+type Sight = fn(&Seen) -> bool;
+
+const SIGHTS: &[Row<Sight>] = &[
+    ("secret word shown at B", |s| s.came == "ZEROIZE word" && s.word(true, 0)),
+    ("secret word withheld at B - 1", |s| s.came == "ZEROIZE withheld" && s.word(true, -1)),
+    ("open word shown at B - 1", |s| s.came == "ZEROIZE word" && s.word(false, -1)),
+    ("WRITE short of its value", |s| match (s.call, s.named) {
+        (Call::Direct(Command::Write { value, .. }), Some(named)) => {
+            s.said.refusal().is_none() && named.stands != *value
+        }
+        _ => false,
+    }),
+    ("load below a held place", |s| s.loads(|places| places[1..].iter().any(Option::is_some))),
+    ("load of tag 0", |s| s.loads(|places| places[0] == Some(0))),
+    ("FSTA without an active slot", |s| s.came == "FSTA none" && s.after.response[12] == 0xFF),
+    ("FSTA with an active slot and no HEK", |s| {
+        s.came == "FSTA none" && s.after.response[12] != 0xFF && s.after.response[16] == 0
+    }),
+    ("FSTA with the HEK", |s| s.came == "FSTA none" && s.after.response[16] == 1),
+    ("erased with the indicator at B", |s| s.erased() && s.past_bound() == Some(0)),
+    ("erased with a short pair", |s| s.erased() && s.names(|p, s| p.some_short(s.cells()))),
+    ("erasure of a torn partition", |s| {
+        s.erased() && s.names(|p, s| p.torn(&s.before.drive.cells))
+    }),
+    ("15 with the indicator at B - 1", |s| {
+        s.said.refusal() == Some(15) && s.past_bound() == Some(-1)
+    }),
+    ("indicator cut at B", |s| s.cuts_indicator() && s.past_bound() == Some(0)),
+    ("indicator cut at B - 1", |s| s.cuts_indicator() && s.past_bound() == Some(-1)),
+    ("32-bit word cut with a mask over 32 bits", |s| s.came == "cut erasure cut" && s.narrow()),
+    ("cut with a key held", |s| s.came == "cut erasure cut" && s.before.cache.any_held()),
+    ("cut past the end with a key held", |s| {
+        s.came == "cut erasure erased" && s.before.cache.any_held()
+    }),
+    ("restart with a key held", |s| s.came == "restart nothing" && s.before.cache.any_held()),
+    ("states: erased", |s| s.lists(0)),
+    ("states: torn", |s| s.lists(1)),
+    ("states: blank", |s| s.lists(2)),
+    ("states: programmed", |s| s.lists(3)),
+    ("states: indicator at B", |s| s.lists_indicator(0)),
+    ("states: indicator at B - 1", |s| s.lists_indicator(-1)),
+    ("fields: more than 255 cells", |s| matches!(s.said, Said::Fields([.., 256..=2048, _, _]))),
+    ("states: more than 255 short pairs", |s| {
+        let mut listed = s.after.short_pairs.iter().take(s.partitions.len());
+        matches!(s.said, Said::Listing([0, _])) && listed.any(|short| *short > 255)
+    }),
+    ("states: refused with 1 where 2 applies", |s| {
+        s.came == "states refused 1" && s.applying.len() == 2
+    }),
+];
+
+/// Every outcome of every call.
+pub fn outcomes() -> Vec<String> {
+    let mut keys: Vec<String> = (1..=16).map(|count| format!("states {count}")).collect();
+    for (name, carried_out, refusals) in OUTCOMES {
+        keys.extend(carried_out.iter().map(|outcome| format!("{name} {outcome}")));
+        keys.extend(refusals.iter().map(|number| format!("{name} refused {number}")));
+    }
+    keys
+}
+
+/// Everything that a run has to meet.
+pub fn possible() -> Vec<String> {
+    let mut keys = outcomes();
+    for (low, higher) in PAIRS {
+        keys.extend(higher.iter().map(|high| format!("{low}+{high}")));
+    }
+    keys.extend(tally::names(REASONS).into_iter().map(alone).chain(tally::names(SIGHTS)));
+    keys
+}
+
+fn alone(reason: String) -> String {
+    format!("WRITE refused for {reason} alone")
+}
+
+/// A call that was made, with what the sights ask of it.
+pub struct Seen<'a> {
+    call: &'a Call,
+    before: &'a Lent,
+    said: Said,
+    after: &'a Lent,
+    /// The call's name and what it came to.
+    came: String,
+    applying: Vec<Refusal>,
+    /// The word that a direct command names.
+    named: Option<Named>,
+    /// The partitions, for erasures and states.
+    partitions: Vec<Layout>,
+}
+
+/// A word, with what the fuses say of it after the call.
+#[derive(Clone, Copy)]
+struct Named {
+    entry: Entry,
+    word: Word,
+    stands: u64,
+    past_bound: i64,
+    /// Whether its partition is counted as zeroized.
+    counted: bool,
+}
+
+impl<'a> Seen<'a> {
+    pub fn of(call: &'a Call, before: &'a Lent, said: Said, after: &'a Lent) -> Seen<'a> {
+        let (named, partitions) = match call {
+            Call::Direct(command) => (named(*command, after), vec![]),
+            Call::Erase(_) | Call::States => (None, Layout::all(&after.drive)),
+            _ => (None, vec![]),
+        };
+        let came = came(call, said);
+        Seen { call, before, said, after, came, applying: call.applying(before), named, partitions }
+    }
+
+    /// The keys of all that is met.
+    pub fn met(self) -> Vec<String> {
+        let mut met = tally::that_hold(SIGHTS, |holds| holds(&self));
+        for (at, low) in self.applying.iter().enumerate() {
+            let higher = self.applying[at + 1..].iter();
+            met.extend(higher.map(|high| format!("{}+{}", low.number(), high.number())));
+        }
+        if let (Call::Direct(Command::Write { value, .. }), Some(8), Some(named)) =
+            (self.call, self.said.refusal(), self.named)
+        {
+            let mut reasons = tally::that_hold(REASONS, |holds| holds(&named, *value));
+            met.extend(reasons.pop().filter(|_| reasons.is_empty()).map(alone));
+        }
+        met.push(self.came);
+        met
+    }
+
+    /// Whether a direct command's word is secret or not, and passes the bound by so many ones.
+    fn word(&self, secret: bool, past_bound: i64) -> bool {
+        let named = |named: Named| named.entry.secret() == secret && named.past_bound == past_bound;
+        self.named.map_or(false, named)
+    }
+
+    /// Of a load: whether this holds of the places from the one it took on.
+    fn loads(&self, holds: fn(&[Option<u64>]) -> bool) -> bool {
+        match self.said {
+            Said::Reply(Reply::Accepted { order: Order::Load { place, .. }, .. }) => {
+                holds(&self.after.cache.places[place as usize..])
+            }
+            _ => false,
+        }
+    }
+
+    fn erased(&self) -> bool {
+        matches!(self.said, Said::Erasure(Erasure::Erased { .. }))
+    }
+
+    fn cuts_indicator(&self) -> bool {
+        matches!(self.said, Said::Erasure(Erasure::Cut { burns: 1 }))
+    }
+
+    /// Whether this holds of the partition that an erasure names.
+    fn names(&self, holds: fn(&Layout, &Seen) -> bool) -> bool {
+        self.partition().map_or(false, |partition| holds(partition, self))
+    }
+
+    fn partition(&self) -> Option<&Layout> {
+        match self.call {
+            Call::Erase(erase) => self.partitions.get(erase.partition as usize),
+            _ => None,
+        }
+    }
+
+    /// By how many ones its indicator passes the bound after the call.
+    fn past_bound(&self) -> Option<i64> {
+        self.partition().map(|partition| partition.past_bound(self.cells()))
+    }
+
+    fn cells(&self) -> &[u32] {
+        &self.after.drive.cells
+    }
+
+    /// Whether a cut's word is one cell, and its mask has more than 32 bits.
+    fn narrow(&self) -> bool {
+        match (self.call, self.partition()) {
+            (Call::Erase(Erase { cut: Some(Cut { k, mask }), .. }), Some(partition)) => {
+                *mask > 0xFFFF_FFFF && partition.order()[*k as usize].len() == 1
+            }
+            _ => false,
+        }
+    }
+
+    /// Whether some partition has this state in the list.
+    fn lists(&self, state: u32) -> bool {
+        let listed = &self.after.states[..self.partitions.len()];
+        matches!(self.call, Call::States) && listed.contains(&state)
+    }
+
+    /// Whether some indicator of the list passes the bound by so many ones.
+    fn lists_indicator(&self, ones: i64) -> bool {
+        let at = |p: &Layout| p.zeroizable && p.past_bound(self.cells()) == ones;
+        matches!(self.call, Call::States) && self.partitions.iter().any(at)
+    }
+}
+
+/// A call's name and what it came to.
+pub fn came(call: &Call, said: Said) -> String {
+    format!("{} {}", call.name(), outcome(said))
+}
+
+fn outcome(said: Said) -> String {
+    if let Some(number) = said.refusal() {
+        return format!("refused {number}");
+    }
+    match said {
+        Said::Fields([.., kind, flags]) => return format!("{kind}/{flags}"),
+        Said::Listing([_, partitions]) => return partitions.to_string(),
+        Said::Place([0, _]) => "empty",
+        Said::Place(_) => "held",
+        Said::Answer(Answer::Word(_)) => "word",
+        Said::Answer(Answer::Done) => "done",
+        Said::Answer(_) => "withheld",
+        Said::Erasure(Erasure::Cut { .. }) => "cut",
+        Said::Erasure(_) => "erased",
+        Said::Reply(Reply::Accepted { order: Order::Clear { .. }, .. }) => "clear",
+        Said::Reply(Reply::Accepted { order: Order::Load { .. }, .. }) => "load",
+        Said::Reply(Reply::Accepted { order: Order::Unload { .. }, .. }) => "unload",
+        Said::Reply(_) => "none",
+        Said::Nothing => "nothing",
+    }
+    .to_string()
+}
+
+fn named(command: Command, after: &Lent) -> Option<Named> {
+    let (map, cells) = (after.drive.map_with_cells()?, &after.drive.cells);
+    let word = map.word_at(command.cell())?;
+    let stands = fuse::word(cells, command.cell(), word.size);
+    let past_bound = i64::from(stands.count_ones()) - map.bound() as i64;
+    let counted = Partition::of(&map, word.partition, cells).counted_as_zeroized();
+    Some(Named { entry: map.entries()[word.partition], word, stands, past_bound, counted })
+}

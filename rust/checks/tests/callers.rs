@@ -1,0 +1,62 @@
+//! Callers. A C program is compiled with every warning an error, linked and run; its lines are
+//! written from document 01, with the mark 1F on cell 5: the indicator gets 59 ones, is
+//! withheld, and stops an erasure. A program that drops an erasure's answer is warned by its
+//! compiler, in C and in Rust: an erasure that ended is not yet an erased partition.
+
+use checks::runner::{compiled, in_repository, run};
+use std::path::{Path, PathBuf};
+use std::process::Command;
+
+const WORDS: &str = "\
+READ 0: kind 3, refusal 8, word 0
+WRITE 7: kind 0, refusal 0, word 137
+READ 7: kind 0, refusal 0, word 137
+WRITE 0: kind 1, refusal 0, word 0
+ZEROIZE 4: kind 2, refusal 0, word 0
+ZEROIZE 6: kind 3, refusal 8, word 0
+erasure: kind 2, refusal 15, short 0, first 0, burns 1
+KLOD: refusal 0, length 16, order 2, place 0, timeout 6
+KLOD: refusal 12, length 0, order 0, place 0, timeout 0
+place 0: kind 1, tag 700000005
+";
+
+fn in_target(name: &str) -> PathBuf {
+    Path::new(env!("CARGO_TARGET_TMPDIR")).join(name)
+}
+
+/// What a compiler says of a source that it compiles, and does not link.
+fn warnings(compiler: &mut Command, source: &str) -> String {
+    let output = compiler.arg(in_repository(source)).output().expect("the compiler starts");
+    let said = String::from_utf8(output.stderr).expect("it says it in text");
+    assert!(output.status.success(), "{said}");
+    said
+}
+
+#[test]
+fn c_program_gets_the_documents_answers() {
+    let program = compiled("rust/checks/c/words.c", &in_target(""));
+    assert_eq!(String::from_utf8_lossy(&run(&program, &[])), WORDS);
+}
+
+#[test]
+fn c_warns_of_a_dropped_erasure() {
+    let mut cc = Command::new("cc");
+    cc.args(["-std=c99", "-c", "-o"]).arg(in_target("dropped.o"));
+    cc.arg("-I").arg(in_repository("include"));
+    let said = warnings(&mut cc, "rust/checks/c/dropped.c");
+    assert!(said.contains("sci_erase") && said.contains("warn_unused_result"), "{said}");
+}
+
+#[test]
+fn rust_warns_of_a_dropped_erasure() {
+    let rustc = |name: &str, source| {
+        let mut rustc = Command::new(std::env::var_os("RUSTC").unwrap_or_else(|| "rustc".into()));
+        rustc.args(["--edition", "2021", "--crate-type", "lib", "--emit", "metadata"]);
+        rustc.args(["--crate-name", name, "--out-dir"]).arg(in_target(""));
+        warnings(rustc.arg("-L").arg(in_target("")), source)
+    };
+    rustc("sciambrunola", "rust/sciambrunola/src/lib.rs");
+    let said = rustc("dropped", "rust/checks/c/dropped.rs");
+    assert!(said.contains("unused `Erasure` that must be used"), "{said}");
+    assert!(said.contains("only if no pair is short"), "{said}");
+}

@@ -1,0 +1,139 @@
+//! Document 01: every call of the key block, what it answers, and the model as
+//! one key block among others.
+
+use crate::direct::{self, Answer, Command};
+use crate::erasure::{self, Erase, Erasure};
+use crate::lent::Lent;
+use crate::mailbox::request::Request;
+use crate::mailbox::{self, fields, Reply};
+use crate::refusal::Refusal;
+use crate::{cache, reading};
+use std::fmt;
+
+/// A call, with all that it is given besides what is lent.
+#[derive(Clone, Debug)]
+pub enum Call {
+    /// "The map of the fuses": the fields of the partition of this number.
+    Partition(u32),
+    /// "Burning and counting": the states and short pairs of all partitions.
+    States,
+    /// "Active slot and key cache": what this place of the cache holds.
+    Place(u32),
+    /// "Direct commands"
+    Direct(Command),
+    /// "Erasing a partition"
+    Erase(Erase),
+    /// "Mailbox"
+    Mailbox(Request),
+    /// "Active slot and key cache": "A restart empties the cache".
+    Restart,
+}
+
+/// What a call answered. The calls that only read answer numbers, in the order of
+/// the C header: of a refusal all but its number are 0.
+#[derive(Clone, Copy, Debug, PartialEq, Eq)]
+pub enum Said {
+    /// Refusal or 0, P, C, B, first cell, n, kind, flags.
+    Fields([u32; 8]),
+    /// Refusal or 0, P.
+    Listing([u32; 2]),
+    /// 0 for an empty place or 1 for a held one, and its tag.
+    Place([u64; 2]),
+    /// What a direct command answers.
+    Answer(Answer),
+    /// What an erasure answers.
+    Erasure(Erasure),
+    /// What the mailbox answers.
+    Reply(Reply),
+    /// A restart answers nothing.
+    Nothing,
+}
+
+/// Whatever can be called: it answers, and changes what it is lent.
+pub trait KeyBlock {
+    /// Makes a call.
+    fn answer(&mut self, lent: &mut Lent, call: &Call) -> Said;
+}
+
+/// The model, whose answers are the right ones.
+#[derive(Clone, Copy)]
+pub struct Model;
+
+impl KeyBlock for Model {
+    fn answer(&mut self, lent: &mut Lent, call: &Call) -> Said {
+        let (said, after) = match call {
+            Call::Partition(number) => {
+                return Said::Fields(reading::numbers(&lent.drive.image, *number));
+            }
+            Call::Place(number) => return Said::Place(lent.cache.told(*number)),
+            Call::States => told(reading::list(lent), Said::Listing),
+            Call::Direct(command) => told(direct::direct(lent, *command), Said::Answer),
+            Call::Erase(erase) => told(erasure::erase(lent, *erase), Said::Erasure),
+            Call::Mailbox(request) => told(mailbox::mailbox(lent, request), Said::Reply),
+            Call::Restart => (Said::Nothing, cache::restart(lent)),
+        };
+        *lent = after;
+        said
+    }
+}
+
+/// What was said as one of the answers, and what was left.
+fn told<T>((said, after): (T, Lent), answer: fn(T) -> Said) -> (Said, Lent) {
+    (answer(said), after)
+}
+
+impl Call {
+    /// The document's name of the command; `other` for a code of none.
+    pub fn name(&self) -> &'static str {
+        match self {
+            Call::Partition(_) => "fields",
+            Call::States => "states",
+            Call::Place(_) => "place",
+            Call::Direct(Command::Read { .. }) => "READ",
+            Call::Direct(Command::Write { .. }) => "WRITE",
+            Call::Direct(Command::Zeroize { .. }) => "ZEROIZE",
+            Call::Erase(Erase { cut: None, .. }) => "erasure",
+            Call::Erase(Erase { cut: Some(_), .. }) => "cut erasure",
+            Call::Mailbox(request) => request.command().map_or("other", fields::Command::name),
+            Call::Restart => "restart",
+        }
+    }
+
+    /// "Refusal numbers": every refusal that applies.
+    pub fn applying(&self, before: &Lent) -> Vec<Refusal> {
+        match self {
+            Call::Partition(number) => reading::applying_to_fields(&before.drive.image, *number),
+            Call::States => reading::applying(&before.drive),
+            Call::Direct(command) => direct::applying(before, *command),
+            Call::Erase(erase) => erasure::applying(before, *erase),
+            Call::Mailbox(request) => mailbox::applying(before, request),
+            Call::Place(_) | Call::Restart => vec![],
+        }
+    }
+}
+
+impl Said {
+    /// The number that the call was refused with, if it was.
+    pub fn refusal(self) -> Option<u32> {
+        match self {
+            Said::Fields([number, ..]) | Said::Listing([number, _]) => Some(number),
+            Said::Answer(Answer::Refused(number)) => Some(number),
+            Said::Erasure(Erasure::Refused { number, .. }) => Some(number),
+            Said::Reply(Reply::Refused(number)) => Some(number),
+            _ => None,
+        }
+        .filter(|number| *number != 0)
+    }
+}
+
+/// The name and all that the call was given.
+impl fmt::Display for Call {
+    fn fmt(&self, f: &mut fmt::Formatter) -> fmt::Result {
+        match self {
+            Call::Mailbox(Request { code, bytes }) => {
+                write!(f, "{} (code {code:08X}), request {bytes:02X?}", self.name())
+            }
+            _ => write!(f, "{self:X?}"),
+        }
+    }
+}

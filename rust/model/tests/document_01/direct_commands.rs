@@ -1,0 +1,116 @@
+//! "Direct commands", on the drive with a partition of each sort.
+
+use super::*;
+use Answer::{Done, Refused, Withheld, Word};
+
+/// The first cells of the drive's partitions.
+const SLOT: u32 = 0;
+const PLAIN: u32 = 6;
+const SOFT: u32 = 12;
+const CYCLE: u32 = 18;
+const SEALED: u32 = 22;
+
+/// The command is answered so, and changes these cells and nothing else.
+fn check(before: &Lent, command: Command, answer: Answer, changed: Cells) {
+    assert_eq!(direct(before, command), (answer, with(before, changed, &[])), "{command:?}");
+}
+
+/// "An even cell and the next form a pair, low half first"; "in kind 1 a data
+/// word is one cell, digest and indicator are pairs".
+#[test]
+fn read_answers_the_word() {
+    let mut lent = every_sort(&[], &[]);
+    lent.drive.cells = (100..128).collect();
+    check(&lent, read(PLAIN), Word((107 << 32) + 106), &[]);
+    check(&lent, read(PLAIN + 4), Word((111 << 32) + 110), &[]);
+    check(&lent, read(SOFT), Word(112), &[]);
+    check(&lent, read(SOFT + 1), Word(113), &[]);
+    check(&lent, read(SOFT + 2), Word((115 << 32) + 114), &[]);
+    check(&lent, read(CYCLE), Word((119 << 32) + 118), &[]);
+    // "Every word of a secret partition is refused (8)."
+    for cell in [SLOT, SLOT + 2, SLOT + 4, SEALED, SEALED + 2] {
+        check(&lent, read(cell), Refused(8), &[]);
+    }
+}
+
+/// "the cell starts no word": high halves of pairs, the gap, and past C.
+#[test]
+fn cells_that_start_no_word_are_refused_with_7() {
+    for cell in [1, 3, 5, 7, 15, 19, 23, 26, 27, 28, 29, 2048, 0x1_0000, 0x8000_0000, ALL] {
+        for command in [read(cell), write(cell, 0), zeroize(cell)] {
+            check(&every_sort(&[], &[]), command, Refused(7), &[]);
+        }
+    }
+}
+
+/// "WRITE burns a data word." "Answer: the word as it now stands, or done in a
+/// secret partition." "A mark on a set fuse has no effect."
+#[test]
+fn write_burns_a_data_word() {
+    let (lent, value) = (every_sort(&[], &[]), 0x8765_4321_0000_00FF);
+    check(&lent, write(PLAIN, value), Word(value), &[(6, 0xFF), (7, 0x8765_4321)]);
+    check(&lent, write(SLOT, value), Done, &[(0, 0xFF), (1, 0x8765_4321)]);
+    check(&lent, write(SEALED, value), Done, &[(22, 0xFF), (23, 0x8765_4321)]);
+    check(&lent, write(SOFT, 0xFF), Word(0xFF), &[(12, 0xFF)]);
+    check(&lent, write(SOFT, 0xFFFF_FFFF), Word(0xFFFF_FFFF), &[(12, ALL)]);
+    let marked = every_sort(&[(6, 0b001)], &[(6, 0b011)]);
+    check(&marked, write(PLAIN, 0b111), Word(0b101), &[(6, 0b101)]);
+    // "Refused (8): digest (in kind 1 this is ours), indicator, life cycle, a
+    // partition counted as zeroized, a value over 32 bits for a 32-bit word."
+    for cell in [PLAIN + 2, PLAIN + 4, SOFT + 2, SOFT + 4, CYCLE] {
+        check(&lent, write(cell, 1), Refused(8), &[]);
+    }
+    check(&lent, write(SOFT, 0x1_0000_0000), Refused(8), &[]);
+    let indicator = |high| every_sort(&[(10, ALL), (11, high)], &[]);
+    check(&indicator(ALL << 4), write(PLAIN, 1), Refused(8), &[]);
+    check(&indicator(ALL << 5), write(PLAIN, 1), Word(1), &[(6, 1)]);
+    // "Refused (9): the value lacks a set fuse."
+    let (set, kept) = (every_sort(&[(7, 0x8000_0000), (12, 1)], &[]), 0x8000_0000_0000_0001);
+    check(&set, write(PLAIN, u64::MAX >> 1), Refused(9), &[]);
+    check(&set, write(SOFT, 0xFFFF_FFFE), Refused(9), &[]);
+    check(&set, write(PLAIN, kept), Word(kept), &[(6, 1)]);
+}
+
+/// "ZEROIZE burns all ones into any word of a zeroizable partition, else 8."
+#[test]
+fn zeroize_burns_any_word_of_a_zeroizable_partition() {
+    let lent = every_sort(&[], &[]);
+    for cell in [0, 2, 4, 6, 8, 10, 14, 16] {
+        let both = [(cell, ALL), (cell + 1, ALL)];
+        check(&lent, zeroize(cell as u32), Word(u64::MAX), &both);
+    }
+    check(&lent, zeroize(SOFT), Word(0xFFFF_FFFF), &[(12, ALL)]);
+    for cell in [CYCLE, CYCLE + 2, SEALED, SEALED + 2] {
+        check(&lent, zeroize(cell), Refused(8), &[]);
+    }
+    // "the word as it now stands; in a secret partition only if its ones reach B,
+    // otherwise withheld": four stuck fuses leave 60 ones, five leave 59.
+    for cell in [0, 2, 4] {
+        let stuck = |mark| every_sort(&[], &[(cell + 1, mark)]);
+        let left = |high| [(cell, ALL), (cell + 1, high)];
+        let (command, shown) = (zeroize(cell as u32), Word(0xFFFF_FFF0_FFFF_FFFF));
+        check(&stuck(0x0F), command, shown, &left(0xFFFF_FFF0));
+        check(&stuck(0x1F), command, Withheld, &left(0xFFFF_FFE0));
+    }
+    let not_secret = every_sort(&[], &[(6, ALL), (7, ALL), (12, ALL)]);
+    check(&not_secret, zeroize(PLAIN), Word(0), &[]);
+    check(&not_secret, zeroize(SOFT), Word(0), &[]);
+}
+
+/// "WRITE, ZEROIZE and erasure on a slot are refused (10) while any place is
+/// held", and nothing else is.
+#[test]
+fn only_changes_of_a_slot_are_refused_with_10() {
+    for place in 0..16 {
+        let lent = held(every_sort(&[], &[]), place);
+        check(&lent, write(SLOT, 1), Refused(10), &[]);
+        check(&lent, zeroize(SLOT + 4), Refused(10), &[]);
+        check(&lent, read(SLOT), Refused(8), &[]);
+        check(&lent, write(SEALED, 1), Done, &[(22, 1)]);
+        check(&lent, write(PLAIN, 1), Word(1), &[(6, 1)]);
+        let refused = (Erasure::Refused { number: 10, burns: 0 }, lent.clone());
+        assert_eq!(erase(&lent, uncut(0)), refused);
+        assert_eq!(erase(&lent, cut(0, 0, 0)), refused);
+        assert_eq!(erase(&lent, uncut(2)).0, erased(0, None, 4));
+    }
+}

@@ -1,0 +1,122 @@
+//! "Erasing a partition": the order of burns, and where a cut leaves it.
+
+use super::*;
+use model::cache::restart;
+
+/// The numbers of the partitions that are erased here, six cells each.
+const SLOT: u32 = 0;
+const PLAIN: u32 = 1;
+const SOFT: u32 = 2;
+
+/// The erasure answers so and leaves its partition these cells. Nothing else
+/// changes, except that after a cut "the key cache is empty". What is uncut is
+/// asked for by FERS too.
+pub fn check(before: &Lent, call: Erase, answer: Erasure, left: [u32; 6]) {
+    let mut after = before.clone();
+    let first = 6 * call.partition as usize;
+    after.drive.cells[first..first + 6].copy_from_slice(&left);
+    if call.cut.is_none() {
+        check_fers(before, call.partition, answer, &after);
+    }
+    if matches!(answer, Erasure::Cut { .. }) {
+        after.cache = Cache::default();
+    }
+    assert_eq!(erase(before, call), (answer, after), "{call:?}");
+}
+
+/// FERS answers the short pairs and the first short cell, or the refusal.
+fn check_fers(before: &Lent, partition: u32, answer: Erasure, after: &Lent) {
+    let mut response = before.response.clone();
+    let mut reply = Reply::Refused(15);
+    if let Erasure::Erased { short_pairs, first_short, .. } = answer {
+        let fields = [0, 0, short_pairs, first_short.unwrap_or(0xFFFF_FFFF)];
+        let bytes = fields.map(u32::to_le_bytes).concat();
+        let sum: u32 = bytes.iter().map(|byte| u32::from(*byte)).sum();
+        response[..4].copy_from_slice(&sum.wrapping_neg().to_le_bytes());
+        response[4..20].copy_from_slice(&bytes);
+        reply = Reply::Accepted { length: 20, order: Order::None };
+    }
+    let after = Lent { response, ..after.clone() };
+    assert_eq!(mailbox(before, &fers(partition)), (reply, after), "FERS {partition}");
+}
+
+/// "indicator, data words ascending, digest"; "the first k burns are whole, the
+/// burn numbered k has the mask (its low 32 bits for a 32-bit word) in place of
+/// all ones, nothing follows"; "the burns carried out, k + 1".
+#[test]
+fn a_cut_leaves_burns_before_k_whole_and_those_after_it_undone() {
+    let (mask, high) = (0x8000_0001_0000_FF00, 0xFFFF_FFFF_0000_0000);
+    let rows = [
+        (SOFT, 0, mask, [0, 0, 0, 0, 0xFF00, 0x8000_0001]),
+        (SOFT, 1, mask, [0xFF00, 0, 0, 0, ALL, ALL]),
+        (SOFT, 2, mask, [ALL, 0xFF00, 0, 0, ALL, ALL]),
+        (SOFT, 3, mask, [ALL, ALL, 0xFF00, 0x8000_0001, ALL, ALL]),
+        (SOFT, 0, high, [0, 0, 0, 0, 0, ALL]),
+        (SOFT, 1, high, [0, 0, 0, 0, ALL, ALL]),
+        (SOFT, 2, high, [ALL, 0, 0, 0, ALL, ALL]),
+        (SOFT, 3, high, [ALL, ALL, 0, ALL, ALL, ALL]),
+        (PLAIN, 2, mask, [ALL, ALL, 0xFF00, 0x8000_0001, ALL, ALL]),
+        // A mask of 0 or of all ones is a cut all the same.
+        (SOFT, 0, 0, [0; 6]),
+        (SOFT, 3, u64::MAX, [ALL; 6]),
+    ];
+    for (partition, k, mask, left) in rows {
+        let lent = held(every_sort(&[], &[]), 5);
+        check(&lent, cut(partition, k, mask), Erasure::Cut { burns: k + 1 }, left);
+    }
+    let stuck = every_sort(&[(6, 0b0001), (7, 0b1000)], &[(6, 0b0011), (7, 0b0001)]);
+    let call = cut(PLAIN, 1, 0x0000_0003_0000_0006);
+    check(&stuck, call, Erasure::Cut { burns: 2 }, [0b0101, 0b1010, 0, 0, ALL, ALL]);
+}
+
+/// "If the erasure would end before burn k, it runs as uncut."
+#[test]
+fn a_cut_past_the_end_runs_as_uncut() {
+    let lent = held(every_sort(&[], &[]), 5);
+    check(&lent, uncut(SOFT), erased(0, None, 4), [ALL; 6]);
+    for k in [4, 5, 255, 256, 0x1_0000, ALL - 1, ALL] {
+        check(&lent, cut(SOFT, k, 0), erased(0, None, 4), [ALL; 6]);
+    }
+    let whole = [0, 1, 2, 3, 4, 5].map(|cell| (cell, ALL));
+    for call in [uncut(SLOT), cut(SLOT, 3, 0), cut(SLOT, ALL, 0)] {
+        check(&small(&[], &[]), call, erased(0, None, 3), [ALL; 6]);
+        check(&small(&whole, &[]), call, erased(0, None, 3), [ALL; 6]);
+    }
+}
+
+/// "Otherwise it goes on through short words"; in kind 1 too, two data cells
+/// are one pair.
+#[test]
+fn short_words_do_not_stop_the_erasure_and_are_counted_in_pairs() {
+    let marks = [(12, 0b11), (13, 0b111), (15, 0x1F)];
+    let (pair, digest) = (every_sort(&[], &marks), every_sort(&[], &marks[2..]));
+    let left = [!0b11, !0b111, ALL, !0x1F, ALL, ALL];
+    check(&pair, uncut(SOFT), erased(2, Some(12), 4), left);
+    check(&digest, uncut(SOFT), erased(1, Some(14), 4), [ALL, ALL, ALL, !0x1F, ALL, ALL]);
+}
+
+/// "If the indicator is short after its burn the erasure stops with refusal 15":
+/// "the indicator stays burned". A cut of burn 0 does not ask.
+#[test]
+fn an_indicator_below_the_bound_stops_the_erasure() {
+    let lent = held(every_sort(&[], &[(17, 0x1F)]), 5);
+    let burned = [0, 0, 0, 0, ALL, !0x1F];
+    for k in [1, 2, 3, 4, ALL] {
+        check(&lent, cut(SOFT, k, 0), STOPPED, burned);
+    }
+    check(&lent, cut(SOFT, 0, u64::MAX), Erasure::Cut { burns: 1 }, burned);
+    let indicator = |fuses, mark| every_sort(&[(5, fuses)], &[(5, mark)]);
+    let (whole, left) = (erased(0, None, 3), |last| [ALL, ALL, ALL, ALL, ALL, last]);
+    check(&indicator(0, 0x0F), uncut(SLOT), whole, left(!0x0F));
+    check(&indicator(0, 0x1F), uncut(SLOT), STOPPED, [0, 0, 0, 0, ALL, !0x1F]);
+    // A mark on a set fuse has no effect.
+    check(&indicator(0x10, 0x1F), uncut(SLOT), whole, left(!0x0F));
+    check(&indicator(0x10, 0x3F), uncut(SLOT), STOPPED, [0, 0, 0, 0, ALL, !0x2F]);
+    check(&indicator(ALL, ALL), uncut(SLOT), whole, left(ALL));
+}
+
+/// "A restart empties the cache and changes nothing else"
+#[test]
+fn a_restart_empties_the_cache_and_changes_nothing_else() {
+    assert_eq!(restart(&held(small(&[], &[]), 5)), small(&[], &[]));
+}
