@@ -1,12 +1,13 @@
 /*
  * The proved key block of a drive controller: the map of its fuses, the states
- * of its partitions, direct commands on its fuses, the erasure of a partition,
- * the key cache of 16 places, and the mailbox. Link libsciambrunola.a: it is
- * built for x86-64 Linux (System V calling convention), position-independent,
- * with no heap, no C library and no undefined symbol. Call it from ordinary
- * threads and not from an interrupt handler: it uses the red zone below the stack
- * pointer and the SSE registers. It has no unwind tables, so no exception and no
- * cancellation may pass through a call of it, and a backtrace ends there.
+ * of its partitions, why it offers no key, direct commands on its fuses, the
+ * erasure of a partition, the key cache of 16 places, and the mailbox. Link
+ * libsciambrunola.a: it is built for x86-64 Linux (System V calling convention),
+ * position-independent, with no heap, no C library and no undefined symbol. Call
+ * it from ordinary threads and not from an interrupt handler: it uses the red
+ * zone below the stack pointer and the SSE registers. It has no unwind tables, so
+ * no exception and no cancellation may pass through a call of it, and a backtrace
+ * ends there.
  *
  * Any bytes, cells, marks, contexts, requests and lengths get an answer, and
  * every call ends. What the caller must see to, and all of it:
@@ -15,20 +16,22 @@
  *   - context points to one sci_context; states and short_pairs are arrays of
  *     SCI_PARTITIONS elements;
  *   - a buffer that a call may write, that is one whose pointer is not const
- *     (cells, but for sci_states; context, but for sci_cache_place; for
- *     sci_mailbox also response and block; for sci_states states and
+ *     (cells, but for sci_states and sci_why; context, but for sci_cache_place;
+ *     for sci_mailbox also response and block; for sci_states states and
  *     short_pairs), overlaps no other buffer of the call. Buffers that are const
  *     may overlap.
  * The archive has no memory of its own: all that a call knows is what it is lent,
  * and all that is kept between calls is the caller's.
  *
  * What is lent to every function, save that sci_partition gets the image only,
- * sci_restart and sci_cache_place the context only, and sci_states no context:
+ * sci_restart and sci_cache_place the context only, and sci_states and sci_why no
+ * context:
  *   image, image_bytes  the map of the fuses, as below; only read
  *   cells, cell_count   the fuse cells, 32 fuses each; written by sci_write,
  *                       sci_zeroize, sci_erase, sci_erase_cut and, for FERS
  *                       alone, sci_mailbox. Only read by sci_read, though the
- *                       pointer is not const there either, and by sci_states
+ *                       pointer is not const there either, and by sci_states and
+ *                       sci_why
  *   marks, mark_count   the stuck marks, one number for each cell: a fuse whose
  *                       bit is set here will not burn; if it is set, it stays
  *                       so. Only read
@@ -111,7 +114,7 @@ extern "C" {
 
 /* The version of this header and of the archive that goes with it: it grows by one
  * whenever something changes for a caller. docs/CHANGES.md says what. */
-#define SCI_VERSION 5
+#define SCI_VERSION 6
 
 /* Of a function whose answer has to be looked at: a warning where it is not, if the
  * compiler has one. An erasure that ended is not yet an erased partition. */
@@ -164,6 +167,14 @@ extern "C" {
 #define SCI_STATE_TORN 1
 #define SCI_STATE_BLANK 2
 #define SCI_STATE_PROGRAMMED 3
+
+/* sci_reason.kind. Why the call was refused is in sci_reason.refusal. */
+#define SCI_REASON_AVAILABLE 0
+#define SCI_REASON_NO_SLOT 1
+#define SCI_REASON_ALL_ERASED 2
+#define SCI_REASON_BLANK 3
+#define SCI_REASON_TORN 4
+#define SCI_REASON_REFUSED 5
 
 /* sci_place.kind */
 #define SCI_PLACE_EMPTY 0
@@ -225,6 +236,18 @@ typedef struct {
     uint32_t partitions; /* P, the states that were written; 0 on refusal */
 } sci_listing;
 
+/* Why a drive offers no key. */
+typedef struct {
+    uint32_t kind;      /* SCI_REASON_AVAILABLE, _NO_SLOT, _ALL_ERASED, _BLANK, _TORN
+                           or _REFUSED */
+    uint32_t refusal;   /* the refusal's number, 0 unless refused */
+    uint32_t partition; /* the active slot's partition where it is blank or torn,
+                           else 0 */
+    uint32_t cell;      /* torn: the first cell, numbered in the whole array, of its
+                           first short pair, which is the lowest; else 0 */
+    uint32_t ones;      /* torn: that pair's ones, fewer than the bound; else 0 */
+} sci_reason;
+
 /* What sci_cache_place answers. */
 typedef struct {
     uint32_t kind; /* SCI_PLACE_EMPTY or SCI_PLACE_HELD */
@@ -283,6 +306,23 @@ sci_listing sci_states(const uint8_t *image, size_t image_bytes,
                        const uint32_t *cells, size_t cell_count,
                        const uint32_t *marks, size_t mark_count,
                        uint32_t states[SCI_PARTITIONS], uint32_t short_pairs[SCI_PARTITIONS]);
+
+/*
+ * Why the drive offers no key. Walks the slots in map order until the first that is
+ * not erased, the active slot. Answers exactly one of these: SCI_REASON_AVAILABLE
+ * where that slot is programmed, and there is no reason to give; _NO_SLOT where the
+ * map has no slot; _ALL_ERASED where it has some and all are erased; _BLANK or _TORN
+ * by the active slot's state, with its partition. A torn slot is told with its first
+ * short pair, which is the lowest, in its data or its digest, and with that pair's
+ * ones: after an erasure that was cut at its indicator they are those of a word of the
+ * seed. Changes nothing. The reason does not depend on the marks, but marks of another
+ * count are refused too.
+ * Refused: 1, 2.
+ */
+SCI_ANSWER
+sci_reason sci_why(const uint8_t *image, size_t image_bytes,
+                   const uint32_t *cells, size_t cell_count,
+                   const uint32_t *marks, size_t mark_count);
 
 /*
  * What the key cache has in the place of this number, 0 to SCI_PLACES - 1. There

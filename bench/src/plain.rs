@@ -1,7 +1,7 @@
 //! The key block once more, as an engineer writes it in safe Rust from document
 //! 01 for firmware in which speed does not matter: no allocation, and a test
-//! that fails ends the call. It shares no code with the model but the names of states
-//! and orders, and none with the library; it is what the library's times are divided by.
+//! that fails ends the call. It shares no code with the model but the names of states,
+//! reasons and orders, and none with the library; it is what the library's times are divided by.
 //!
 //! The calls are not inlined, since those of the library cannot be.
 
@@ -11,7 +11,7 @@ mod mailbox;
 mod map;
 
 pub use erasure::{erase, Erased};
-pub use fuses::states;
+pub use fuses::{states, why};
 pub use mailbox::{mailbox, Buffers};
 pub use map::{Entry, Header};
 

@@ -48,6 +48,7 @@ pub fn all() -> Vec<Row> {
     rows.extend(erasures("erasure, 2,048 single cells", singles));
     rows.extend(Mail::ALL.map(|command| mailbox(command, "small drive", Drive::small())));
     rows.extend(Mail::ALL.map(|command| mailbox(command, "largest map", last_slot_active())));
+    rows.push(row("why, largest map", last_slot_torn(), Call::Why));
     rows
 }
 
@@ -121,6 +122,17 @@ fn last_slot_active() -> Drive {
     largest(|i, part| match i {
         15 => program(i, part),
         _ => part.fill(u32::MAX),
+    })
+}
+
+/// The same with the last slot torn, and its digest alone short: its lowest short pair
+/// is found after all its data.
+fn last_slot_torn() -> Drive {
+    largest(|i, part| {
+        part.fill(u32::MAX);
+        if i == 15 {
+            part[SHARE - TAIL] = 0;
+        }
     })
 }
 

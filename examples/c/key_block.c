@@ -1,9 +1,9 @@
 /*
  * The key block from C, on the small drive of document 01: its map and its states
  * are read, a key is loaded, an erasure is refused while the key is held, the drive
- * restarts, another erasure is cut by a power failure, and the next one ends it.
- * Each step prints a line; one that fails ends the program with a failing status.
- * main, at the end, tells the story.
+ * restarts, another erasure is cut by a power failure, the next one ends it, and the
+ * drive is asked why it offers no key. Each step prints a line; one that fails ends
+ * the program with a failing status. main, at the end, tells the story.
  *
  * From the root of the repository, once the archive is built:
  *   cc -std=c99 -I include examples/c/key_block.c target/staticlib/libsciambrunola.a \
@@ -101,6 +101,32 @@ static bool list_states(void)
     }
     printf("\n");
     return true;
+}
+
+/* Why the drive offers no key, for whoever has to judge it. */
+static bool tell_why(void)
+{
+    sci_reason reason = sci_why(map, sizeof map, cells, CELLS, marks, CELLS);
+    switch (reason.kind) {
+    case SCI_REASON_AVAILABLE:
+        printf("why: the key is available\n");
+        return true;
+    case SCI_REASON_NO_SLOT:
+        printf("why: the map has no slot\n");
+        return true;
+    case SCI_REASON_ALL_ERASED:
+        printf("why: every slot is erased\n");
+        return true;
+    case SCI_REASON_BLANK:
+        printf("why: slot %" PRIu32 " is blank\n", reason.partition);
+        return true;
+    case SCI_REASON_TORN:
+        printf("why: slot %" PRIu32 " is torn, its pair at cell %" PRIu32 " has %" PRIu32
+               " ones\n", reason.partition, reason.cell, reason.ones);
+        return true;
+    default:
+        return failed("why", reason.refusal);
+    }
 }
 
 /* The fields of requests and responses: four bytes each, low byte first. */
@@ -217,11 +243,11 @@ static bool erase_slot_cut(void)
 }
 
 /* Erases the slot. That the erasure ended is not enough: with a short pair the slot
- * is torn, and its seed may still be there. */
+ * is torn, and its seed may still be there. The reason then names that pair. */
 static bool erase_slot(void)
 {
     sci_erasure erasure = erase();
-    bool listed = list_states();
+    bool told = list_states() && tell_why();
     if (erasure.kind != SCI_ENDED) {
         return failed("erasure", erasure.refusal);
     }
@@ -229,7 +255,7 @@ static bool erase_slot(void)
         fprintf(stderr, "erasure: the slot is torn, its seed may still be there\n");
         return false;
     }
-    return listed;
+    return told;
 }
 
 /* A mark is 1 to 8 hexadecimal digits and nothing else. */

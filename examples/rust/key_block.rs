@@ -1,8 +1,8 @@
 //! The key block from Rust, on the small drive of document 01: its map and its
 //! states are read, a key is loaded, an erasure is refused while the key is held,
-//! the drive restarts, another erasure is cut by a power failure, and the next one
-//! ends it. Each step prints a line; one that fails ends the program with a failing
-//! status. `story`, at the end, tells it.
+//! the drive restarts, another erasure is cut by a power failure, the next one ends
+//! it, and the drive is asked why it offers no key. Each step prints a line; one that
+//! fails ends the program with a failing status. `story`, at the end, tells it.
 //!
 //! From the root of the repository, once the archive is built:
 //!   cargo run --offline --release --manifest-path rust/Cargo.toml --bin key_block
@@ -12,8 +12,8 @@
 #![forbid(unsafe_code)]
 
 use sciambrunola::{code, flag, kind, refusal, BLOCK_BYTES, LEAST_RESPONSE};
-use sciambrunola::{erase, erase_cut, mailbox, partition, restart, states};
-use sciambrunola::{Context, Erasure, Fields, Order, Reply, States};
+use sciambrunola::{erase, erase_cut, mailbox, partition, restart, states, why};
+use sciambrunola::{Context, Erasure, Fields, Order, Reason, Reply, States};
 use std::fmt::Debug;
 use std::process::ExitCode;
 
@@ -89,6 +89,21 @@ impl Drive {
             Some(format!("{i} {}, {short_pairs} short", state.name()))
         });
         println!("states: {}", line.collect::<Vec<_>>().join("; "));
+        Ok(())
+    }
+
+    /// Why the drive offers no key, for whoever has to judge it.
+    fn tell_why(&self) -> Step {
+        match why(&MAP, &self.cells, &self.marks) {
+            Reason::Available => println!("why: the key is available"),
+            Reason::NoSlot => println!("why: the map has no slot"),
+            Reason::AllErased => println!("why: every slot is erased"),
+            Reason::Blank { partition } => println!("why: slot {partition} is blank"),
+            Reason::Torn { partition, cell, ones } => {
+                println!("why: slot {partition} is torn, its pair at cell {cell} has {ones} ones");
+            }
+            other => return failed("why", other),
+        }
         Ok(())
     }
 
@@ -169,10 +184,11 @@ impl Drive {
     }
 
     /// Erases the slot. That the erasure ended is not enough: with a short pair the
-    /// slot is torn, and its seed may still be there.
+    /// slot is torn, and its seed may still be there. The reason then names that pair.
     fn erase_slot(&mut self) -> Step {
         let erasure = self.erase();
         self.list_states()?;
+        self.tell_why()?;
         match erasure {
             Erasure::Ended { short_pairs: 0, .. } => Ok(()),
             Erasure::Ended { .. } => {

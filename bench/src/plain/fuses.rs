@@ -1,8 +1,8 @@
-//! Document 01, "Burning and counting" and the active slot.
+//! Document 01, "Burning and counting" and the active slot; document 02, P1.
 
 use super::map::{Entry, Map};
 use super::Refusal;
-use model::State;
+use model::{Reason, State};
 
 /// Writes the state and the short pairs of each partition to the front of the
 /// array, and says how many partitions there are: refusals 1 and 2.
@@ -20,13 +20,32 @@ pub fn states(
     Ok(map.header.partitions.into())
 }
 
-/// The first slot that is not erased, and whether it gives the HEK.
-pub fn active_slot(map: &Map, cells: &[u32]) -> Option<(u32, bool)> {
+/// Why there is no HEK, or that it is available: refusals 1 and 2.
+#[inline(never)]
+pub fn why(image: &[u8], cells: &[u32], marks: &[u32]) -> Result<Reason, Refusal> {
+    let map = super::checked_map(image, cells, marks)?;
+    Ok(match active_slot(&map, cells) {
+        None if map.entries().any(|entry| entry.is_slot()) => Reason::AllErased,
+        None => Reason::NoSlot,
+        Some((partition, State::Blank)) => Reason::Blank { partition },
+        Some((partition, State::Torn)) => {
+            let range = map.entries().nth(partition as usize).expect("it is a slot").range();
+            let mut named = range.clone().step_by(2).zip(cells[range].chunks_exact(2));
+            let short = named.find(|(_, pair)| is_short(pair, map.header.bound));
+            let (cell, pair) = short.expect("some pair of a torn slot is short");
+            Reason::Torn { partition, cell: cell as u32, ones: ones(pair) }
+        }
+        Some(_) => Reason::Available,
+    })
+}
+
+/// The first slot that is not erased, with its state.
+pub fn active_slot(map: &Map, cells: &[u32]) -> Option<(u32, State)> {
     for (number, entry) in (0..).zip(map.entries()) {
         if entry.is_slot() {
             let (state, _) = survey(&cells[entry.range()], entry, map.header.bound);
             if state != State::Erased {
-                return Some((number, state == State::Programmed));
+                return Some((number, state));
             }
         }
     }
@@ -54,8 +73,13 @@ fn survey(part: &[u32], entry: Entry, bound: u16) -> (State, u32) {
 
 /// Whether a pair has fewer ones than the bound.
 pub fn is_short(pair: &[u32], bound: u16) -> bool {
+    ones(pair) < u32::from(bound)
+}
+
+/// The ones of a pair.
+fn ones(pair: &[u32]) -> u32 {
     let fuses = u64::from(pair[0]) | u64::from(pair[1]) << 32;
-    fuses.count_ones() < u32::from(bound)
+    fuses.count_ones()
 }
 
 /// Burns all ones into a word of any number of cells.

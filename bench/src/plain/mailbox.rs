@@ -4,7 +4,7 @@ use super::erasure::erase_in;
 use super::fuses::active_slot;
 use super::map::Map;
 use super::{Cache, Drive, Refusal};
-use model::Order;
+use model::{Order, State};
 
 /// What the mailbox is lent besides drive and cache.
 pub struct Buffers<'a> {
@@ -66,8 +66,9 @@ fn carry_out(
             Ok((respond(response, &[erased.short_pairs, first_short]), Order::None))
         }
         _ => {
-            let (slot, available) = active_slot(map, drive.cells).unwrap_or((NONE, false));
-            Ok((respond(response, &[slot, available.into()]), Order::None))
+            let active = active_slot(map, drive.cells);
+            let told = |(slot, state)| [slot, (state == State::Programmed).into()];
+            Ok((respond(response, &active.map_or([NONE, 0], told)), Order::None))
         }
     }
 }
@@ -96,7 +97,7 @@ fn judge_request(code: u32, request: &[u8]) -> Result<(), Refusal> {
 
 /// Takes the lowest empty place for a tag: refusals 11, 12 and 13.
 fn load(map: &Map, cells: &[u32], cache: &mut Cache, tag: u64) -> Result<u32, Refusal> {
-    if !matches!(active_slot(map, cells), Some((_, true))) {
+    if !matches!(active_slot(map, cells), Some((_, State::Programmed))) {
         return Err(11);
     }
     if cache.contains(&Some(tag)) {

@@ -15,6 +15,7 @@ impl KeyBlock for Plain {
         match call {
             Call::Partition(number) => Said::Fields(fields(drive.image, *number)),
             Call::States => Said::Listing(list(lent)),
+            Call::Why => Said::Reason(plain::why(drive.image, drive.cells, drive.marks)),
             Call::Erase(Erase { partition, cut: None }) => {
                 Said::Erasure(match plain::erase(&mut drive, &cache.places, *partition) {
                     Ok(Erased { short_pairs, first_short, burns }) => {

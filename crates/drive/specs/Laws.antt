@@ -2,7 +2,7 @@
 use Prim.Native.Nat.{ℕ, _+_, _-_, _≤_, _<_}
 use mathlib.Core.Path.{_≡_, refl, sym, ap, _∙_}
 use mathlib.Core.Logic.{⊎-elim}
-use mathlib.Core.Bool.{false≢true, Bool, true, false, cond, _&&_}
+use mathlib.Core.Bool.{Bool, true, false, cond, _&&_}
 use mathlib.Core.List.{List, _++_}
 use native.Mathlib.Omega.{arith}
 use lib.ListN.{length, take, drop, length-take}
@@ -18,15 +18,14 @@ use Rattle.map.specs.Laws.{map-header, map-entry}
 use Rattle.partition.specs.declared.State.{State}
 use Rattle.partition.specs.declared.Survey.{Survey}
 use Rattle.partition.specs.Partition.{pairs, shortAt, shortPairs, counted, surveyOf}
-use Rattle.partition.specs.declared.State.the-variants.{Erased, Torn, Blank, Programmed}
 use Rattle.cache.specs.Cache.{cacheOf, hasPlace}
 use Rattle.cache.specs.declared.Sought.the-variants.{Held}
 use Rattle.drive.specs.declared.Terms.{Terms}
 use Rattle.drive.specs.declared.Check.{Check}
 use Rattle.drive.specs.declared.Check.the-variants.{Ready, Refused}
 use Rattle.drive.specs.declared.ActiveSlot.{ActiveSlot}
-use Rattle.drive.specs.declared.ActiveSlot.the-variants.{Programmed as ProgrammedSlot, Absent}
-use Rattle.drive.specs.Drive.{Whole, wholeArrays, driveTests, checkOf, cellsOf, termsOf, surveyAt, countedAt, slotIn, slotAt, present, available}
+use Rattle.drive.specs.declared.ActiveSlot.the-variants.{Absent}
+use Rattle.drive.specs.Drive.{Whole, wholeArrays, driveTests, checkOf, cellsOf, termsOf, surveyAt, countedAt, slotIn, slotAt, present}
 use Rattle.drive.specs.Drive.{openSlot, activePlace, activeSlot, slotInUse}
 
 -- ---- the check
@@ -175,42 +174,6 @@ module _ (image cells cells′ : List ℕ)
       let end : i ≡ p = omega (arith, w .most, ltb-false i p n) in
       active-none image cells′ (place-same ∙ end) ∙ sym (active-none image cells end))
       (decided (ltb i p))
-
--- ---- what it tells that the HEK is available
-
-pub record Available (image cells : List ℕ) : Type 0 where
-  pub partition : ℕ
-  pub within : partition < headerOf image .partitions
-  pub is-slot : slot (entryOf image partition) ≡ true
-  pub programmed : surveyAt image cells partition .state ≡ Programmed
-  pub answer : activeSlot image cells ≡ ProgrammedSlot partition
-  -- every slot before it is erased
-  pub before : (j : ℕ) → j < partition → openSlot image cells j ≡ false
-
-only-programmed : (b : Bool) (state : State) (i : ℕ) → available (cond b (slotIn state i) Absent) ≡ true → (b ≡ true) × (state ≡ Programmed)
-only-programmed true Programmed i e = (refl, refl)
-only-programmed true Erased i e = absurd (false≢true e)
-only-programmed true Torn i e = absurd (false≢true e)
-only-programmed true Blank i e = absurd (false≢true e)
-only-programmed false state i e = absurd (false≢true e)
-
-pub available-tells : (image cells : List ℕ) → available (activeSlot image cells) ≡ true → Available image cells
-unfolding slotAt
-available-tells image cells e =
-    let p = headerOf image .partitions in
-    let i = activePlace image cells in
-    let w : First (openSlot image cells) 0 p i = first-tells (openSlot image cells) 0 p in
-    ⊎-elim
-    (λ (l : ltb i p ≡ true).
-    let within : i < p = ltb-true i p l in
-    let here : activeSlot image cells ≡ slotAt image cells i = active-at image cells i within refl in
-    let t = only-programmed (slot (entryOf image i)) (surveyAt image cells i .state) i (rw here at e) in
-    record { partition = i; within = within; is-slot = t .0; programmed = t .1; answer = here ∙ rw (t .0, t .1); before = λ j q. w .before j (omega arith) q })
-    (λ (l : ltb i p ≡ false).
-    let le : p ≤ i = ltb-false i p l in
-    let none : activeSlot image cells ≡ Absent = active-none image cells (omega (arith, w .most)) in
-    absurd (false≢true (rw none at e)))
-    (decided (ltb i p))
 
 -- ---- a slot while a key is held, at the entry that was read
 

@@ -1,3 +1,4 @@
 pub mod Drive
 pub mod Laws
+pub mod Active
 pub mod Vectors

@@ -31,10 +31,10 @@ pub fn ones(fuses: u64) -> u64
 }
 
 // Whether a pair is short: fewer of its fuses are set than the bound asks.
-pub fn is_short(low: u32, high: u32, bound: u64) -> bool
-    ensures { λ r. ⌜ r ≡ short bound (pairOf low high) ⌝ }
+pub fn is_short(fuses: u64, bound: u64) -> bool
+    ensures { λ r. ⌜ r ≡ short bound fuses ⌝ }
 {
-    ones(pair(low, high)) < bound
+    ones(fuses) < bound
 }
 
 // Burns `value` into the cell at `at`, and touches no other cell.

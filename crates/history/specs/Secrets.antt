@@ -23,7 +23,7 @@ use Rattle.direct.specs.declared.Answer.{Answer}
 use Rattle.direct.specs.declared.Answer.the-variants.{Word as Shown, Done, Withheld, Refused}
 use Rattle.direct.specs.Direct.{wordOf, forbidden, directTests, cellsAfter, carriedOut, directBy, directOf}
 use Rattle.direct.specs.Laws.{direct-at}
-use Rattle.drive.specs.Laws.{Available, available-tells}
+use Rattle.drive.specs.Active.{Available, available-tells}
 use Rattle.engine.specs.declared.Order.{Order}
 use Rattle.engine.specs.declared.Order.the-variants.{Nothing}
 use Rattle.codec.specs.Fields.{commandOf}

@@ -12,7 +12,7 @@ use lib.ListN.{length, drop, set, getD, length-append}
 use lib.Seq.{drop-cons, set-at, append-snoc}
 use lib.Dec.{ltb}
 use borrow.Author.Tests.{ltb-true, ltb-false}
-use Rattle.laws.specs.Tests.{and, not-yes}
+use Rattle.laws.specs.Tests.{and, decided, not-yes, not-first}
 
 -- f holds at each number below n
 unfoldable pub allBelow : (ℕ → Bool) → ℕ → Bool
@@ -61,6 +61,21 @@ all-at f (suc n) g k l =
 
 pub all-fails : (f : ℕ → Bool) (n k : ℕ) → k < n → f k ≡ false → allBelow f n ≡ false
 all-fails f n k l e = not-yes (allBelow f n) (λ g. false≢true (sym e ∙ all-at f n g k l))
+
+-- and back: it holds where it fails at none, and where it does not hold it fails at some number
+pub all-holds : (f : ℕ → Bool) (n : ℕ) → ((k : ℕ) → k < n → f k ≡ true) → allBelow f n ≡ true
+unfolding allBelow
+all-holds f zero h = refl
+all-holds f (suc n) h = rw (all-holds f n (λ k l. h k (omega arith))) (h n (omega arith))
+
+pub fails-at : (f : ℕ → Bool) (n : ℕ) → allBelow f n ≡ false → (k : ℕ) × (k < n) × (f k ≡ false)
+unfolding allBelow
+fails-at f zero e = absurd (false≢true (sym e))
+fails-at f (suc n) e =
+    ⊎-elim
+    (λ (y : f n ≡ true). let found = fails-at f n (not-first (allBelow f n) (f n) e y) in (found .0, omega arith, found .2))
+    (λ (o : f n ≡ false). (n, omega arith, o))
+    (decided (f n))
 
 -- ---- how many
 

@@ -107,18 +107,21 @@ module _ (zeroizable : Bool) (bound : ℕ) (part : List ℕ) where
 -- ---- the lowest short pair
 
 module _ (bound : ℕ) (part : List ℕ) where
-  -- there is one where some pair is short, so in every torn partition
-  pub some-lowest : (shortPairs bound part ≡ 0 → ⊥) → lowestShort bound part ≡ Cell (2 * lowestPair bound part)
-  unfolding lowestShort
-  some-lowest some =
+  -- it is there where some pair is short, so in every torn partition
+  pub lowest-within : (shortPairs bound part ≡ 0 → ⊥) → lowestPair bound part < pairs part
+  lowest-within some =
       let j = lowestPair bound part in
       let w : First (shortAt bound part) 0 (pairs part) j = first-tells (shortAt bound part) 0 (pairs part) in
       ⊎-elim
-      (λ (l : ltb j (pairs part) ≡ true). rw l)
+      (λ (l : ltb j (pairs part) ≡ true). ltb-true j (pairs part) l)
       (λ (l : ltb j (pairs part) ≡ false).
       let n : pairs part ≤ j = ltb-false j (pairs part) l in
       absurd (some (none-count (shortAt bound part) (pairs part) (λ k a. w .before k (omega arith) (omega arith)))))
       (decided (ltb j (pairs part)))
+
+  pub some-lowest : (shortPairs bound part ≡ 0 → ⊥) → lowestShort bound part ≡ Cell (2 * lowestPair bound part)
+  unfolding lowestShort
+  some-lowest some = rw (lt-ltb _ _ (lowest-within some))
 
   -- and none where none is
   pub no-lowest : shortPairs bound part ≡ 0 → Nothing ≡ lowestShort bound part

@@ -1,12 +1,14 @@
 -- Document 01, "Burning and counting", over a partition's cells, counted from where the partition starts. Assumes nothing.
 use Prim.Native.Nat.{ℕ, _+_, _-_, _*_, _/_}
+use mathlib.Core.Path.{_≡_}
 use mathlib.Core.Bool.{Bool, cond, _&&_, not}
 use mathlib.Core.List.{List}
 use lib.ListN.{length, getD}
 use lib.Dec.{eqb, leb, ltb}
 use Rattle.laws.specs.Below.{allBelow, countBelow, firstBelow}
-use Rattle.fuse.specs.Fuse.{pairOf, short}
+use Rattle.fuse.specs.Fuse.{pairOf, onesOf, short}
 use Rattle.partition.specs.declared.Shorts.{Shorts}
+use Rattle.partition.specs.declared.ShortPair.{ShortPair}
 use Rattle.partition.specs.declared.Lowest.{Lowest}
 use Rattle.partition.specs.declared.Lowest.the-variants.{Cell, Nothing}
 use Rattle.partition.specs.declared.State.{State}
@@ -62,15 +64,31 @@ zeroCell part k = eqb (getD part k 0) 0
 abbrev pub noData : (zeroizable : Bool) (part : List ℕ) → Bool
 noData zeroizable part = allBelow (zeroCell part) (dataCells zeroizable part)
 
+-- the cells whose pairs tell erased from torn, "no pair short" from "some pair short": all of the partition's
+abbrev pub judgedCells : (part : List ℕ) → List ℕ
+judgedCells part = part
+
 -- "Its state is one of four"
 unfoldable pub stateOf : (zeroizable : Bool) (bound : ℕ) (part : List ℕ) → State
 stateOf zeroizable bound part =
     cond (counted zeroizable bound part)
     -- erased: counted as zeroized, no pair short; torn: counted as zeroized, some pair short
-    (cond (eqb (shortPairs bound part) 0) Erased Torn)
+    (cond (eqb (shortPairs bound (judgedCells part)) 0) Erased Torn)
     -- blank: not counted, every data cell zero; programmed: not counted, some data fuse set
     (cond (noData zeroizable part) Blank Programmed)
 
 -- a partition's state and short pairs together
 abbrev pub surveyOf : (zeroizable : Bool) (bound : ℕ) (part : List ℕ) → Survey
 surveyOf zeroizable bound part = record { state = stateOf zeroizable bound part; short = shortPairs bound part }
+
+-- ---- request P1, "torn also with its first short pair and that pair's ones"
+
+-- "some pair short"
+abbrev pub SomeShort : (bound : ℕ) (part : List ℕ) → Type 0
+SomeShort bound part = shortPairs bound (judgedCells part) ≡ 0 → ⊥
+
+-- a torn partition's first short pair, by its first cell, counted from where the partition starts
+abbrev pub tornPair : (bound : ℕ) (part : List ℕ) → ShortPair
+tornPair bound part =
+    let first : ℕ = lowestPair bound (judgedCells part) in
+    record { cell = 2 * first; ones = onesOf (pairAt (judgedCells part) first) }

@@ -7,7 +7,7 @@ use mathlib.Core.List.{List, [], _∷_, _++_}
 use lib.ListN.{replicate}
 use lib.Count.{onesIn}
 use Rattle.laws.specs.Below.{allBelow, countBelow, firstFrom}
-use Rattle.partition.specs.Partition.{shortAt, lowestShort, counted, zeroCell, stateOf, surveyOf}
+use Rattle.partition.specs.Partition.{shortAt, lowestShort, counted, zeroCell, stateOf, surveyOf, tornPair}
 use Rattle.partition.specs.declared.Lowest.the-variants.{Cell, Nothing}
 use Rattle.partition.specs.declared.State.the-variants.{Erased, Torn, Blank, Programmed}
 
@@ -27,6 +27,11 @@ weakIndicator v = full 31 ++ (v ∷ [])
 torn-59 : (surveyOf true 60 (weak 0xFFFF_FFE0) ≡ record { state = Torn; short = 1 }) × (lowestShort 60 (weak 0xFFFF_FFE0) ≡ Cell 6)
 unfolding stateOf counted shortAt countBelow lowestShort firstFrom onesIn
 torn-59 = (refl, refl)
+
+-- request P1: of two short pairs, 59 ones at cell 6 and 33 at cell 12, the first is told, with its ones
+first-of-two : tornPair 60 (full 7 ++ (0xFFFF_FFE0 ∷ (full 4 ++ (1 ∷ full 19)))) ≡ record { cell = 6; ones = 59 }
+unfolding shortAt firstFrom onesIn
+first-of-two = refl
 
 -- 60 of 64: erased
 erased-60 : (surveyOf true 60 (weak 0xFFFF_FFF0) ≡ record { state = Erased; short = 0 }) × (lowestShort 60 (weak 0xFFFF_FFF0) ≡ Nothing)

@@ -5,7 +5,8 @@
 ghost use mathlib.Core.Path.{_≡_};
 ghost use Prim.Native.Nat.{_+_, _*_, _<_, _≤_};
 ghost use lib.ListN.{length};
-ghost use Rattle.partition.specs.Partition.{shortAt, shortPairs, lowestShort, shortsOf, counted, tail, noData, surveyOf};
+ghost use Rattle.partition.specs.Partition.{pairAt, shortAt, shortPairs, lowestPair, lowestShort, shortsOf, counted, tail, noData, surveyOf};
+ghost use Rattle.partition.specs.Partition.{SomeShort, tornPair};
 
 // The first cell of the lowest short pair, counted from the partition's start.
 pub enum Lowest {
@@ -17,6 +18,12 @@ pub enum Lowest {
 pub struct Shorts {
     pub count: usize,
     pub lowest: Lowest,
+}
+
+// A short pair: its first cell, counted from the partition's start, and its ones.
+pub struct ShortPair {
+    pub cell: usize,
+    pub ones: u64,
 }
 
 // What a partition's fuses say.
@@ -33,12 +40,20 @@ pub struct Survey {
     pub short: usize,
 }
 
+// Pair `j`.
+fn pair_at(part: &[u32], j: usize) -> u64
+    requires { ⌜ 2 * j + 1 < length (now part) ⌝ }
+    ensures { λ r. ⌜ r ≡ pairAt (now (part .entry)) j ⌝ }
+{
+    fuse::pair(part[2 * j], part[2 * j + 1])
+}
+
 // Whether pair `j` is short.
 fn short_at(part: &[u32], j: usize, bound: u64) -> bool
     requires { ⌜ 2 * j + 1 < length (now part) ⌝ }
     ensures { λ r. ⌜ r ≡ shortAt bound (now (part .entry)) j ⌝ }
 {
-    fuse::is_short(part[2 * j], part[2 * j + 1], bound)
+    fuse::is_short(pair_at(part, j), bound)
 }
 
 // The number of short pairs.
@@ -57,17 +72,28 @@ fn short_pairs(part: &[u32], bound: u64) -> usize
     short
 }
 
-// The lowest short pair.
-fn lowest_short(part: &[u32], bound: u64) -> Lowest
-    ensures { λ r. ⌜ r ≡ lowestShort bound (now (part .entry)) ⌝ }
+// The number of the lowest short pair, that of all pairs where none is short.
+fn lowest_pair(part: &[u32], bound: u64) -> usize
+    ensures { λ r. ⌜ r ≡ lowestPair bound (now (part .entry)) ⌝ }
 {
     let end = part.len() / 2;
     let mut j: usize = 0;
     while j < end {
         if short_at(part, j, bound) {
-            return Lowest::Cell(2 * j);
+            return j;
         }
         j += 1;
+    }
+    end
+}
+
+// The lowest short pair.
+fn lowest_short(part: &[u32], bound: u64) -> Lowest
+    ensures { λ r. ⌜ r ≡ lowestShort bound (now (part .entry)) ⌝ }
+{
+    let j = lowest_pair(part, bound);
+    if j < part.len() / 2 {
+        return Lowest::Cell(2 * j);
     }
     Lowest::Nothing
 }
@@ -86,6 +112,18 @@ pub fn shorts_of(part: &[u32], bound: u64) -> Shorts
     Shorts {
         count: count,
         lowest: lowest_short(part, bound),
+    }
+}
+
+// The first short pair among those that a torn partition is judged by.
+pub fn torn_pair(part: &[u32], bound: u64) -> ShortPair
+    requires { ⌜ SomeShort bound (now part) ⌝ }
+    ensures { λ r. ⌜ r ≡ tornPair bound (now (part .entry)) ⌝ }
+{
+    let j = lowest_pair(part, bound);
+    ShortPair {
+        cell: 2 * j,
+        ones: fuse::ones(pair_at(part, j)),
     }
 }
 
@@ -127,7 +165,8 @@ fn no_data(part: &[u32], zeroizable: bool) -> bool
     true
 }
 
-// A partition's state, and its short pairs, which the state's first question counts anyway.
+// A partition's state, and its short pairs, which the state's first question counts anyway: all pairs
+// are told, and all tell erased from torn (`judgedCells`).
 pub fn survey_cells(part: &[u32], bound: u64, zeroizable: bool) -> Survey
     ensures { λ r. ⌜ r ≡ surveyOf zeroizable bound (now (part .entry)) ⌝ }
 {

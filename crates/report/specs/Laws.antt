@@ -1,7 +1,7 @@
 -- The report's laws: the last line, which refusal is given, the cells as they are read, the table, and what an accepted input tells.
 -- Assumes nothing.
 use Prim.Native.Nat.{ℕ, _+_, _-_, _*_, _≤_, _<_}
-use mathlib.Core.Path.{_≡_, ap, _∙_}
+use mathlib.Core.Path.{_≡_, refl, ap, _∙_}
 use mathlib.Core.Bool.{true, false}
 use mathlib.Core.List.{List, _++_}
 use native.Mathlib.Omega.{arith}
@@ -16,16 +16,19 @@ use Rattle.map.specs.declared.Header.{Header}
 use Rattle.map.specs.declared.Entry.{Entry}
 use Rattle.map.specs.Laws.{map-header, map-entry}
 use Rattle.partition.specs.declared.Survey.{Survey}
+use Rattle.partition.specs.declared.State.the-variants.{Programmed}
 use Rattle.drive.specs.declared.ActiveSlot.{ActiveSlot}
-use Rattle.drive.specs.Laws.{available-tells, short-most}
+use Rattle.drive.specs.Active.{available-tells, active-is}
+use Rattle.drive.specs.Laws.{short-most}
 use Rattle.drive.specs.Drive.{surveyAt, activeSlot, slotNumber, available}
 use Rattle.map.specs.Map.{headerOf, entryOf, mapGood}
 use Rattle.text.specs.Text.{text, decimal}
 use Rattle.laws.specs.Put.{Put}
 use Rattle.report.specs.declared.Reading.{Reading}
 use Rattle.report.specs.declared.Reading.the-variants.{Drive, Refused}
-use Rattle.report.specs.Status.{mapLength, imageOf, cellCount, numberAt, inputCells, inputTests, readingOf, lineOf, hekLine, lineAt, tableOf, printed}
-use Rattle.report.specs.Status.{statusOf, Printed, SmallLine, SmallSlot}
+use Rattle.report.specs.Status.{mapLength, imageOf, cellCount, numberAt, inputCells, inputTests, readingOf, lineOf, hekLine, lineAt, tableOf, SmallLine, SmallSlot}
+use Rattle.report.specs.declared.Program.{Program}
+use Rattle.report.specs.Report.{printed, reportOf, Printed}
 
 -- ---- the last line
 
@@ -142,9 +145,9 @@ in-front {t} {before} p =
       fits = omega (arith, p .is-next, p .room, p .same);
     }
 
-pub printed-by : (input before after : List ℕ) (r : ℕ) (reading : Reading) → readingOf input ≡ reading → Put 0 (printed reading input) before after r
-    → Printed (statusOf input) before after r
-printed-by input before after r reading e p = in-front (rw e p)
+pub printed-by : (program : Program) (input before after : List ℕ) (r : ℕ) (reading : Reading) → readingOf input ≡ reading
+    → Put 0 (printed program reading input) before after r → Printed (reportOf program input) before after r
+printed-by program input before after r reading e p = in-front (rw e p)
 
 -- ---- every number of a good map's table has at most four digits, at what was read: the entry and the survey, or the active slot
 
@@ -158,4 +161,4 @@ small-line image cells g i l x survey e q =
 pub small-slot : (image cells : List ℕ) → mapGood image ≡ true → (slot : ActiveSlot) → slot ≡ activeSlot image cells → SmallSlot slot
 small-slot image cells g slot e y =
     let a = available-tells image cells (rw e at y) in
-    rw (e, a .answer) (omega (arith, a .within, map-header image g .partitions-most))
+    rw (e, ← active-is image cells (a .partition) Programmed refl (a .active)) (omega (arith, a .active .within, map-header image g .partitions-most))

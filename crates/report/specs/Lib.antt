@@ -1,4 +1,7 @@
 pub mod Status
+pub mod Why
+pub mod Report
 pub mod Laws
+pub mod Words
 pub mod Longer
 pub mod Vectors

@@ -15,7 +15,9 @@ use Rattle.laws.specs.Tests.{decided}
 use Rattle.endian.specs.Endian.{u16At}
 use Rattle.map.specs.Laws.{map-header}
 use Rattle.map.specs.Map.{mapGood}
-use Rattle.report.specs.Status.{mapLength, imageOf, cellCount, refusedLine, statusOf}
+use Rattle.report.specs.Status.{mapLength, imageOf, cellCount, refusedLine}
+use Rattle.report.specs.declared.Program.{Program}
+use Rattle.report.specs.Report.{reportOf}
 use Rattle.report.specs.Laws.{input-at}
 
 two-cut : (j : ℕ) (s : List ℕ) → drop 2 (take (suc (suc j)) s) ≡ take j (drop 2 s)
@@ -27,8 +29,8 @@ two-cut j (a ∷ b ∷ s) = refl
 late : (len : ℕ) (image : List ℕ) → ℕ
 late len image = cond (ltb 256 len) 1 (cond (mapGood image) 2 1)
 
-module _ (input : List ℕ) (l : 16642 < length input) where
-  too-much : statusOf input ≡ refusedLine (late (mapLength input) (imageOf input))
+module _ (program : Program) (input : List ℕ) (l : 16642 < length input) where
+  too-much : reportOf program input ≡ refusedLine (late (mapLength input) (imageOf input))
   unfolding late
   too-much =
       let len = mapLength input in
@@ -47,7 +49,7 @@ module _ (input : List ℕ) (l : 16642 < length input) where
       (decided (mapGood (imageOf input))))
       (decided (ltb 256 len))
 
-module _ (input : List ℕ) (k : ℕ) (l : 16642 < k) (h : k ≤ length input) where
+module _ (program : Program) (input : List ℕ) (k : ℕ) (l : 16642 < k) (h : k ≤ length input) where
   -- the front that is kept holds the map's length, and the map where it is at most 256 long
   same-length : mapLength (take k input) ≡ mapLength input
   unfolding u16At
@@ -66,7 +68,7 @@ module _ (input : List ℕ) (k : ℕ) (l : 16642 < k) (h : k ≤ length input) w
       (λ (a : ltb 256 (mapLength input) ≡ false). rw (same-image (mapLength input) (ltb-false _ _ a)))
       (decided (ltb 256 (mapLength input))))
 
-  pub past-any-drive : statusOf (take k input) ≡ statusOf input
+  pub past-any-drive : reportOf program (take k input) ≡ reportOf program input
   past-any-drive =
       let long : length (take k input) ≡ k = length-take-le k input h in
-      too-much (take k input) (omega arith) ∙ ap refusedLine same-late ∙ sym (too-much input (omega arith))
+      too-much program (take k input) (omega arith) ∙ ap refusedLine same-late ∙ sym (too-much program input (omega arith))

@@ -17,8 +17,6 @@ use Rattle.drive.specs.Drive.{surveyAt, activeSlot, slotNumber, available}
 use Rattle.text.specs.Text.{text, decimal}
 use Rattle.report.specs.declared.Reading.{Reading}
 use Rattle.report.specs.declared.Reading.the-variants.{Drive, Refused}
-use Rattle.report.specs.declared.Failure.{Failure}
-use Rattle.report.specs.declared.Failure.the-variants.{Input, Output}
 
 -- ---- the input: "a u16 map length, the map, C cells, C marks, each a little-endian u32"
 
@@ -88,27 +86,6 @@ tableOf image cells =
 -- "A refusal prints only `refused`, a space and the number"
 abbrev pub refusedLine : (number : ℕ) → List ℕ
 refusedLine number = text "refused " ++ decimal number ++ text "\n"
-
--- what is printed for each reading of the input
-abbrev pub printed : Reading → (input : List ℕ) → List ℕ
-printed (Refused number) input = refusedLine number
-printed Drive input = tableOf (imageOf input) (inputCells input)
-
--- everything that the status program prints
-abbrev pub statusOf : (input : List ℕ) → List ℕ
-statusOf input = printed (readingOf input) input
-
--- ours, since 01 has no words for it: what the program says on standard error where its input cannot be read or its output cannot be
--- written. It is no line of a table and no refusal
-abbrev pub failureLine : Failure → List ℕ
-failureLine Input = text "status: standard input cannot be read\n"
-failureLine Output = text "status: standard output cannot be written\n"
-
--- what is in the lent buffer afterwards: the printed bytes, their number answered, and behind them what was there
-pub record Printed (t before after : List ℕ) (answer : ℕ) : Type 0 where
-  pub count : answer ≡ length t
-  pub bytes : after ≡ t ++ drop (length t) before
-  pub fits : answer ≤ length after
 
 -- ---- numbers of at most four digits, which is what `text::put_decimal` can print: those of a line, and that of the last line
 

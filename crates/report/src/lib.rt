@@ -1,8 +1,11 @@
-// The status program's answer: the bytes that it reads go in, the bytes that it prints come out in a
-// lent buffer, and so do the lines that it says on standard error. Reading, judging and every printed
-// byte are decided here; the program only moves bytes. The definitions are in `specs/Status`, the
-// laws in `specs/Laws` and `specs/Longer`. It rests on `drive`, `reader`, `map`, `partition` and
-// `text`, and below them on `cache`, `context`, `endian` and `laws`.
+// What the desk's programs answer: the bytes that they read go in, the bytes that they print come out
+// in a lent buffer, and so do the lines that they say on standard error. Reading, judging and every
+// printed byte are decided here; the programs only move bytes. The definitions are in `specs/Status`
+// and `specs/Why`, and of both programs together in `specs/Report`; the laws in `specs/Laws`,
+// `specs/Words` and `specs/Longer`. It rests on `drive`, `reason`, `reader`, `map`, `partition` and
+// `text`, and below them on `cache`, `context`, `endian`, `fuse` and `laws`.
+mod why;
+
 use drive::ActiveSlot;
 use partition::State;
 use partition::Survey;
@@ -12,9 +15,15 @@ ghost use Prim.Native.Nat.{_+_, _≤_};
 ghost use lib.ListN.{length, drop};
 ghost use Rattle.laws.specs.Below.{joinBelow};
 ghost use Rattle.drive.specs.Drive.{Whole};
-ghost use Rattle.report.specs.Status.{imageOf, numberAt, inputCells, readingOf, stateName, lineOf, hekLine, tableOf, refusedLine, statusOf};
-ghost use Rattle.report.specs.Status.{failureLine, Printed, SmallLine, SmallSlot};
+ghost use Rattle.report.specs.Status.{imageOf, numberAt, inputCells, readingOf, stateName, lineOf, hekLine, tableOf, refusedLine, SmallLine, SmallSlot};
+ghost use Rattle.report.specs.Report.{programName, outputOf, reportOf, failureLine, Printed};
 ghost use Rattle.laws.specs.Put.{Put};
+
+// The programs: the state of each partition of a drive, and why it offers no HEK.
+pub enum Program {
+    Status,
+    Why,
+}
 
 // What the input is: a whole drive, or refused with its number, a byte, which can always be printed.
 pub enum Reading {
@@ -22,7 +31,7 @@ pub enum Reading {
     Refused(u8),
 }
 
-// What the program could not do: read its input, or write its output.
+// What a program could not do: read its input, or write its output.
 pub enum Failure {
     Input,
     Output,
@@ -139,10 +148,21 @@ fn put_table(out: &mut [u8], image: &[u8], cells: &[u32]) -> usize
     put_hek(out, at, drive::active_in(image, cells))
 }
 
-// Writes the table of the drive that the input holds.
-fn put_drive(out: &mut [u8], input: &[u8]) -> usize
+// Writes what a program prints of a drive.
+fn put_output(out: &mut [u8], program: Program, image: &[u8], cells: &[u32]) -> usize
+    requires { ⌜ Whole (now image) (now cells) × (448 ≤ length (now out)) ⌝ }
+    ensures { λ r. ⌜ Put 0 (outputOf program (now (image .entry)) (now (cells .entry))) (now (out .entry)) (now (out .exit)) r ⌝ }
+{
+    match program {
+        Program::Status => put_table(out, image, cells),
+        Program::Why => why::put_why(out, image, cells),
+    }
+}
+
+// Writes what a program prints of the drive that the input holds.
+fn put_drive(out: &mut [u8], program: Program, input: &[u8]) -> usize
     requires { ⌜ (readingOf (now input) ≡ Reading.Drive) × (448 ≤ length (now out)) ⌝ }
-    ensures { λ r. ⌜ Put 0 (tableOf (imageOf (now (input .entry))) (inputCells (now (input .entry)))) (now (out .entry)) (now (out .exit)) r ⌝ }
+    ensures { λ r. ⌜ Put 0 (outputOf program (imageOf (now (input .entry))) (inputCells (now (input .entry)))) (now (out .entry)) (now (out .exit)) r ⌝ }
 {
     let end = 2 + endian::u16_at(input, 0) as usize;
     let image = &input[2..end];
@@ -150,27 +170,39 @@ fn put_drive(out: &mut [u8], input: &[u8]) -> usize
     let count = header.cells as usize;
     let mut numbers = [0u32; 2048];
     read_cells(input, end, count, &mut numbers);
-    put_table(out, image, &numbers[..count])
+    put_output(out, program, image, &numbers[..count])
 }
 
-// Everything that the status program prints for its input, in the front of the lent buffer, and how
-// many bytes that is. The rest of the buffer keeps its bytes.
-pub fn report_status(input: &[u8], out: &mut [u8; 512]) -> usize
-    ensures { λ r. ⌜ Printed (statusOf (now (input .entry))) (now (out .entry)) (now (out .exit)) r ⌝ }
+// Everything that a program prints for its input, in the front of the lent buffer, and how many bytes
+// that is. The rest of the buffer keeps its bytes.
+pub fn report_drive(program: Program, input: &[u8], out: &mut [u8; 512]) -> usize
+    ensures { λ r. ⌜ Printed (reportOf program (now (input .entry))) (now (out .entry)) (now (out .exit)) r ⌝ }
 {
     match read_input(input) {
         Reading::Refused(number) => put_refused(out, number),
-        Reading::Drive => put_drive(out, input),
+        Reading::Drive => put_drive(out, program, input),
     }
 }
 
-// What the status program says on standard error where it fails, and how many bytes that is. The
-// rest of the buffer keeps its bytes.
-pub fn report_failure(failure: Failure, out: &mut [u8; 64]) -> usize
-    ensures { λ r. ⌜ Printed (failureLine failure) (now (out .entry)) (now (out .exit)) r ⌝ }
+// Writes a program's name.
+fn put_program(out: &mut [u8], program: Program) -> usize
+    requires { ⌜ 6 ≤ length (now out) ⌝ }
+    ensures { λ r. ⌜ Put 0 (programName program) (now (out .entry)) (now (out .exit)) r × (r ≤ 6) ⌝ }
 {
+    match program {
+        Program::Status => text::put(out, 0, b"status"),
+        Program::Why => text::put(out, 0, b"why"),
+    }
+}
+
+// What a program says on standard error where it fails, and how many bytes that is. The rest of the
+// buffer keeps its bytes.
+pub fn report_failure(program: Program, failure: Failure, out: &mut [u8; 64]) -> usize
+    ensures { λ r. ⌜ Printed (failureLine program failure) (now (out .entry)) (now (out .exit)) r ⌝ }
+{
+    let at = put_program(out, program);
     match failure {
-        Failure::Input => text::put(out, 0, b"status: standard input cannot be read\n"),
-        Failure::Output => text::put(out, 0, b"status: standard output cannot be written\n"),
+        Failure::Input => text::put(out, at, b": standard input cannot be read\n"),
+        Failure::Output => text::put(out, at, b": standard output cannot be written\n"),
     }
 }

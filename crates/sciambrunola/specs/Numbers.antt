@@ -1,4 +1,4 @@
--- The answers as numbers, for C: each case of a partition's fields, a listing, a place, an answer, a reply and an engine order. Assumes nothing.
+-- The answers as numbers, for C: each case of a partition's fields, a listing, a reason, a place, an answer, a reply and an engine order. Assumes nothing.
 use Prim.Native.Nat.{ℕ}
 use Rattle.cache.specs.declared.Place.{Place}
 use Rattle.cache.specs.declared.Place.the-variants.{Empty, Held}
@@ -8,6 +8,8 @@ use Rattle.map.specs.declared.Header.{Header}
 use Rattle.map.specs.declared.Entry.{Entry}
 use Rattle.reader.specs.declared.Reading.{Reading}
 use Rattle.reader.specs.declared.Reading.the-variants.{Partition, Refused as NoFields}
+use Rattle.reason.specs.declared.Reason.{Reason}
+use Rattle.reason.specs.declared.Reason.the-variants.{Available, NoSlot, AllErased, Blank, Torn, Refused as NoReason}
 use Rattle.states.specs.declared.Listing.{Listing}
 use Rattle.states.specs.declared.Listing.the-variants.{Listed, Refused as NotListed}
 use Rattle.direct.specs.declared.Answer.{Answer}
@@ -18,6 +20,7 @@ use Rattle.mailbox.specs.declared.Reply.{Reply}
 use Rattle.mailbox.specs.declared.Reply.the-variants.{Refused, Accepted}
 use Rattle.sciambrunola.specs.declared.numbers.SciFields.{SciFields}
 use Rattle.sciambrunola.specs.declared.numbers.SciListing.{SciListing}
+use Rattle.sciambrunola.specs.declared.reasons.SciReason.{SciReason}
 use Rattle.sciambrunola.specs.declared.numbers.SciPlace.{SciPlace}
 use Rattle.sciambrunola.specs.declared.numbers.SciAnswer.{SciAnswer}
 use Rattle.sciambrunola.specs.declared.numbers.SciErasure.{SciErasure}
@@ -35,6 +38,19 @@ fieldsNumbers (NoFields number) = record { refusal = number; partitions = 0; cel
 abbrev pub listingNumbers : Listing → SciListing
 listingNumbers (Listed partitions) = record { refusal = 0; partitions = partitions }
 listingNumbers (NotListed number) = record { refusal = number; partitions = 0 }
+
+-- request P1's reasons, by numbers of ours, each with the values that it has: "both with the partition, torn also with its first short
+-- pair and that pair's ones"
+abbrev pub bareReason : (kind refusal : ℕ) → SciReason
+bareReason kind refusal = record { kind = kind; refusal = refusal; partition = 0; cell = 0; ones = 0 }
+
+abbrev pub reasonNumbers : Reason → SciReason
+reasonNumbers Available = bareReason 0 0
+reasonNumbers NoSlot = bareReason 1 0
+reasonNumbers AllErased = bareReason 2 0
+reasonNumbers (Blank partition) = record { kind = 3; refusal = 0; partition = partition; cell = 0; ones = 0 }
+reasonNumbers (Torn partition cell ones) = record { kind = 4; refusal = 0; partition = partition; cell = cell; ones = ones }
+reasonNumbers (NoReason number) = bareReason 5 number
 
 -- "each empty or holding a 64-bit tag"
 abbrev pub placeNumbers : Place → SciPlace

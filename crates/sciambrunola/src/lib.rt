@@ -1,9 +1,11 @@
-// What C and Rust call, in a static archive: a map's fields, the states, a place of the key cache, the
-// direct commands, the erasures, the restart and the mailbox, their answers as the numbers of
-// `numbers`. Each function does what the entry point below it does, for any bytes and any lengths, and
-// asks nothing of its caller but what include/sciambrunola.h says of pointers. It rests on `reader`,
-// `states`, `cache`, `direct`, `erasure` and `mailbox`, and on the array of `context`.
+// What C and Rust call, in a static archive: a map's fields, the states, the reason why no HEK is
+// offered, a place of the key cache, the direct commands, the erasures, the restart and the mailbox,
+// their answers as the numbers of `numbers` and `reasons`. Each function does what the entry point
+// below it does, for any bytes and any lengths, and asks nothing of its caller but what
+// include/sciambrunola.h says of pointers. It rests on `reader`, `states`, `reason`, `cache`, `direct`,
+// `erasure` and `mailbox`, and on the array of `context`.
 mod numbers;
+mod reasons;
 
 use context::Context;
 use direct::Command;
@@ -13,15 +15,17 @@ use numbers::SciFields;
 use numbers::SciListing;
 use numbers::SciPlace;
 use numbers::SciReply;
+use reasons::SciReason;
 ghost use mathlib.Core.Path.{_≡_};
 ghost use Rattle.context.specs.State.{state, outcome, telling};
 ghost use Rattle.cache.specs.Cache.{cacheOf, placeAt, emptied};
 ghost use Rattle.reader.specs.Reader.{readingOf};
 ghost use Rattle.states.specs.States.{lists, listingOf};
+ghost use Rattle.reason.specs.Reason.{reasonOf};
 ghost use Rattle.erasure.specs.Erasure.{erasureOf, cutErasureOf};
 ghost use Rattle.direct.specs.Direct.{directOf};
 ghost use Rattle.mailbox.specs.Mailbox.{lent, mailboxOf};
-ghost use Rattle.sciambrunola.specs.Numbers.{fieldsNumbers, listingNumbers, placeNumbers, answerNumbers, erasureNumbers, replyNumbers};
+ghost use Rattle.sciambrunola.specs.Numbers.{fieldsNumbers, listingNumbers, reasonNumbers, placeNumbers, answerNumbers, erasureNumbers, replyNumbers};
 
 // The fields of a partition.
 #[no_mangle]
@@ -44,6 +48,14 @@ pub extern "C" fn sci_states(
         ≡ telling listingNumbers (listingOf (now (image .entry)) (now (cells .entry)) (now (marks .entry)) (lists (now (states .entry)) (now (shorts .entry)))) ⌝ }
 {
     numbers::flat_listing(states::list_states(image, cells, marks, states, shorts))
+}
+
+// Why the drive offers no HEK.
+#[no_mangle]
+pub extern "C" fn sci_why(image: &[u8], cells: &[u32], marks: &[u32]) -> SciReason
+    ensures { λ r. ⌜ r ≡ reasonNumbers (reasonOf (now (image .entry)) (now (cells .entry)) (now (marks .entry))) ⌝ }
+{
+    reasons::flat_reason(reason::find_reason(image, cells, marks))
 }
 
 // What is in a place of the key cache.

@@ -1,74 +1,7 @@
-// The status program: reads a drive from standard input and prints its state. It moves bytes, and
-// `report` decides every one of them. What it does not read of a longer input changes nothing: by
-// then the input is longer than any drive (`report`'s law `past-any-drive`). Input that cannot be read
-// and output that cannot be written are told on standard error, since a program has no exit status to
-// give: without that line they would pass for an empty input and for a silent success. It rests on
-// `report`, and on `io` and `libc` of the kit.
-use libc::STDERR_FILENO;
-use libc::STDIN_FILENO;
-use libc::STDOUT_FILENO;
-use report::Failure;
-ghost use mathlib.Core.Path.{_≡_};
-ghost use Rattle.status.specs.Intake.{intakeOf, Within};
-
-// What came of reading: so many bytes, or that it failed.
-enum Intake {
-    Bytes(usize),
-    Unread,
-}
-
-// What the answer of one read says. No bytes are the input's end, which is no failure.
-fn intake_of(got: isize) -> Intake
-    ensures { λ r. ⌜ r ≡ intakeOf got ⌝ }
-{
-    if got < 0 {
-        return Intake::Unread;
-    }
-    Intake::Bytes(got as usize)
-}
-
-// Reads into the front of the buffer until the input ends or the buffer is full. A read that brings
-// less than was asked for is gone on with. One that fails is told, whatever came before it, since
-// that is no whole input.
-fn take_in(buf: &mut [u8]) -> Intake
-    ensures { λ r. ⌜ Within r (now (buf .exit)) ⌝ }
-{
-    let mut done: usize = 0;
-    while done < buf.len() {
-        let got = libc::read(STDIN_FILENO, &mut buf[done..]);
-        match intake_of(got) {
-            Intake::Unread => return Intake::Unread,
-            Intake::Bytes(more) => {
-                if more == 0 {
-                    break;
-                }
-                done += more;
-            }
-        }
-    }
-    Intake::Bytes(done)
-}
-
-// Says on standard error what failed. Where that cannot be written either, nothing is left to say it.
-fn tell(failure: Failure) {
-    let mut line = [0u8; 64];
-    let count = report::report_failure(failure, &mut line);
-    io::write_all(STDERR_FILENO, &line[..count]);
-}
-
-// Prints what `report` makes of the input.
-fn print_status(input: &[u8]) {
-    let mut out = [0u8; 512];
-    let count = report::report_status(input, &mut out);
-    if !io::write_all(STDOUT_FILENO, &out[..count]) {
-        tell(Failure::Output);
-    }
-}
+// The status program: the state of each partition of the drive on standard input. It rests on `desk`,
+// and `report` decides what is printed.
+use report::Program;
 
 fn main() {
-    let mut input = io::large_buffer();
-    match take_in(&mut input) {
-        Intake::Unread => tell(Failure::Input),
-        Intake::Bytes(count) => print_status(&input[..count]),
-    }
+    desk::run(Program::Status);
 }

@@ -3,6 +3,7 @@
 // rests on the kit's `bytes` and on `laws`.
 ghost use Prim.Native.Nat.{_+_, _≤_, _<_};
 ghost use mathlib.Core.Path.{_≡_};
+ghost use mathlib.Core.List.{_++_};
 ghost use lib.ListN.{length};
 ghost use Rattle.text.specs.Text.{digit, zeros, decimal};
 ghost use Rattle.laws.specs.Put.{Put};
@@ -49,4 +50,13 @@ pub fn put_decimal(out: &mut [u8], at: usize, v: usize) -> usize
     ];
     let zeros = leading_zeros(v);
     put(out, at, &digits[zeros..])
+}
+
+// Writes `t` and behind it `v` in decimal, and answers the place past both.
+pub fn put_numbered(out: &mut [u8], at: usize, t: &[u8], v: usize) -> usize
+    requires { ⌜ (at + length (now t) + 4 ≤ length (now out)) × (v < 10000) ⌝ }
+    ensures { λ r. ⌜ Put at (now (t .entry) ++ decimal v) (now (out .entry)) (now (out .exit)) r × (r ≤ at + length (now (t .entry)) + 4) ⌝ }
+{
+    let at = put(out, at, t);
+    put_decimal(out, at, v)
 }

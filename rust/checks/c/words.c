@@ -1,5 +1,6 @@
 /* Document 01, "The small drive", from C: the direct commands, which the example does not
- * show, and every field of their answers, of a place, a reply and a refused erasure. */
+ * show, and every field of their answers, of a place, a reply, a refused erasure and, by
+ * document 02, P1, of reasons. */
 #include "sciambrunola.h"
 
 #include <inttypes.h>
@@ -15,12 +16,25 @@ static const uint8_t image[] = {
 };
 static uint32_t cells[CELLS] = {1};
 static const uint32_t marks[CELLS] = {0, 0, 0, 0, 0, 0x1F};
+static const uint32_t torn[CELLS] = {
+    0xFFFFFFFF, 0xFFFFFFFF, /* data, erased */
+    0x80000000, 0x00000011, /* the digest, short */
+    0xFFFFFFFF, 0xFFFFFFFF  /* the indicator */
+};
 static sci_context context = {0};
 
 static void print_answer(const char *name, sci_answer answer)
 {
     printf("%s: kind %" PRIu32 ", refusal %" PRIu32 ", word %" PRIu64 "\n", name,
            answer.kind, answer.refusal, answer.word);
+}
+
+static void print_reason(const char *name, const uint32_t *these, size_t count)
+{
+    sci_reason reason = sci_why(image, sizeof image, these, count, marks, CELLS);
+    printf("%s: kind %" PRIu32 ", refusal %" PRIu32 ", partition %" PRIu32 ", cell %" PRIu32
+           ", ones %" PRIu32 "\n", name, reason.kind, reason.refusal, reason.partition,
+           reason.cell, reason.ones);
 }
 
 int main(void)
@@ -50,5 +64,8 @@ int main(void)
     }
     place = sci_cache_place(&context, 0);
     printf("place 0: kind %" PRIu32 ", tag %" PRIX64 "\n", place.kind, place.tag);
+    print_reason("why", cells, CELLS);
+    print_reason("why, torn", torn, CELLS);
+    print_reason("why, a cell too few", torn, CELLS - 1);
     return 0;
 }

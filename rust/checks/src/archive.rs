@@ -6,7 +6,8 @@
 use crate::context;
 use crate::painted::left_by_c;
 use model::{
-    Answer, Call, Command, Cut, Drive, Erase, Erasure, KeyBlock, Lent, Order, Reply, Request, Said,
+    Answer, Call, Command, Cut, Drive, Erase, Erasure, KeyBlock, Lent, Order, Reason, Reply,
+    Request, Said,
 };
 use sciambrunola::{Context, NO_CELL};
 
@@ -22,6 +23,7 @@ pub struct Archive {
 extern "C" {
     fn sci_partition();
     fn sci_states();
+    fn sci_why();
     fn sci_cache_place();
     fn sci_read();
     fn sci_write();
@@ -65,9 +67,11 @@ impl KeyBlock for Archive {
     fn answer(&mut self, lent: &mut Lent, call: &Call) -> Said {
         let mut context = context::of(lent);
         let (function, words) = arguments(lent, &mut context, call);
-        let large = matches!(call, Call::Partition(_) | Call::Erase(_) | Call::Mailbox(_));
+        let large =
+            matches!(call, Call::Partition(_) | Call::Why | Call::Erase(_) | Call::Mailbox(_));
         // SAFETY: every pointer is that of a part of `lent`, of the context or of the
-        // request, which outlive the call and overlap nowhere; where the header asks for a count, it follows.
+        // request, which outlive the call and overlap nowhere; where the header asks for a
+        // count, it follows.
         let told = unsafe { self.call(function, words, large) };
         context::take_back(lent, &context);
         said(call, told)
@@ -82,10 +86,9 @@ pub fn place(context: &Context, number: u32) -> Said {
     said(&Call::Place(number), told)
 }
 
-/// The function of a call, and its arguments in the header's order.
-fn arguments(lent: &mut Lent, context: &mut Context, call: &Call) -> (Function, Vec<u64>) {
-    let Lent { drive: Drive { image, cells, marks }, response, block, .. } = lent;
-    let drive = [
+/// A drive, each pointer with its count, and the context.
+fn lent_words(Drive { image, cells, marks }: &mut Drive, context: &mut Context) -> [u64; 7] {
+    [
         image.as_ptr() as u64,
         image.len() as u64,
         cells.as_mut_ptr() as u64,
@@ -93,7 +96,13 @@ fn arguments(lent: &mut Lent, context: &mut Context, call: &Call) -> (Function, 
         marks.as_ptr() as u64,
         marks.len() as u64,
         context as *mut Context as u64,
-    ];
+    ]
+}
+
+/// The function of a call, and its arguments in the header's order.
+fn arguments(lent: &mut Lent, context: &mut Context, call: &Call) -> (Function, Vec<u64>) {
+    let drive = lent_words(&mut lent.drive, context);
+    let Lent { response, block, .. } = lent;
     // What stands above the 32 bits of a number is nobody's.
     let low = |number: &u32| u64::from(*number) | 0xDEAD_BEEF << 32;
     let with = |words: &[u64], more: &[u64]| [words, more].concat();
@@ -103,6 +112,7 @@ fn arguments(lent: &mut Lent, context: &mut Context, call: &Call) -> (Function, 
             let lists = [lent.states.as_mut_ptr() as u64, lent.short_pairs.as_mut_ptr() as u64];
             (sci_states, with(&drive[..6], &lists))
         }
+        Call::Why => (sci_why, drive[..6].to_vec()),
         Call::Place(number) => (sci_cache_place, with(&drive[6..], &[low(number)])),
         Call::Direct(Command::Read { cell }) => (sci_read, with(&drive, &[low(cell)])),
         Call::Direct(Command::Write { cell, value }) => {
@@ -138,6 +148,7 @@ fn said(call: &Call, told: [u32; 8]) -> Said {
         // Between a place's kind and its tag are four bytes of no meaning.
         (Call::Place(_), [kind, _, low, high, ..]) => Said::Place([kind.into(), word(low, high)]),
         (Call::States, [refusal, partitions, ..]) => Said::Listing([refusal, partitions]),
+        (Call::Why, _) => Said::Reason(reason(told)),
         (Call::Restart, _) => Said::Nothing,
         (Call::Direct(_), [0, 0, low, high, ..]) => Said::Answer(Answer::Word(word(low, high))),
         (Call::Direct(_), [1, 0, 0, 0, ..]) => Said::Answer(Answer::Done),
@@ -157,5 +168,18 @@ fn said(call: &Call, told: [u32; 8]) -> Said {
         }
         (Call::Mailbox(_), [number, 0, 0, 0, 0, ..]) => Said::Reply(Reply::Refused(number)),
         _ => panic!("{call} is answered {told:X?}"),
+    }
+}
+
+/// The same of a reason.
+fn reason(told: [u32; 8]) -> Result<Reason, u32> {
+    match told {
+        [0, 0, 0, 0, 0, ..] => Ok(Reason::Available),
+        [1, 0, 0, 0, 0, ..] => Ok(Reason::NoSlot),
+        [2, 0, 0, 0, 0, ..] => Ok(Reason::AllErased),
+        [3, 0, partition, 0, 0, ..] => Ok(Reason::Blank { partition }),
+        [4, 0, partition, cell, ones, ..] => Ok(Reason::Torn { partition, cell, ones }),
+        [5, number, 0, 0, 0, ..] => Err(number),
+        _ => panic!("why is answered {told:X?}"),
     }
 }

@@ -3,10 +3,12 @@
 
 pub mod commands;
 mod met;
+mod outcomes;
 pub mod requests;
 mod scene;
 
-pub use met::{came, outcomes, possible};
+pub use met::possible;
+pub use outcomes::{came, outcomes};
 
 use crate::tally::Tally;
 use met::Seen;

@@ -1,18 +1,21 @@
 //! Copies of the model with one fault each, for the tests of the tests: one for each thing that a
-//! comparison looks at, and for each clause of demand 3 one that breaks it. That the proofs refuse
-//! faults of the key block itself is shown by the edits in `crates/*/must-fail`.
+//! comparison looks at, for each clause of demand 3 one that breaks it, and wrong reasons. That the
+//! proofs refuse faults of the key block itself is shown by the edits in `crates/*/must-fail`.
 
 use crate::layout::Layout;
-use model::{Answer, Call, Command, Cut, Erase, Erasure, KeyBlock, Lent, Model, Reply, Said};
+use model::Reason::{AllErased, Available, Blank, NoSlot, Torn};
+use model::{Answer, Call, Command, Cut, Drive, Erase, Erasure, KeyBlock, Lent, Model};
+use model::{Reason, Reply, Said};
 use std::ops::Range;
 
 /// Faults by how their difference from the model is told.
-pub const OF_COMPARISONS: [&str; 13] = [
+pub const OF_COMPARISONS: [&str; 14] = [
     "the answer: the model says Answer(",
     "the answer: the model says Erasure(",
     "the answer: the model says Fields(",
     "the answer: the model says Listing(",
     "the answer: the model says Place(",
+    "the answer: the model says Reason(",
     "the answer: the model says Reply(",
     "cell 0: ",
     "place 15: ",
@@ -43,6 +46,16 @@ pub const OF_HISTORIES: [&str; 16] = [
     "a key held after an erasure",
 ];
 
+/// Faults of the reason why there is no key.
+pub const OF_REASONS: [&str; 6] = [
+    "the last short pair for the first",
+    "the ones of the low half",
+    "a cell counted from the partition's first",
+    "all erased where the map has no slot",
+    "a blank slot taken for a programmed one",
+    "a refusal taken for no slot",
+];
+
 /// The model with the fault of this name; without one for any other name.
 pub struct Faulty(pub &'static str);
 
@@ -58,6 +71,9 @@ impl KeyBlock for Faulty {
                 self.erased(erasure, range, late, &before, lent).map(Said::Erasure)
             }
             (_, Said::Reply(Reply::Accepted { length, .. })) => self.replied(length, &before, lent),
+            (_, Said::Reason(reason)) => {
+                self.reasoned(reason, &before.drive).map(|reason| Said::Reason(Ok(reason)))
+            }
             _ => self.others(said, lent),
         };
         faulty.unwrap_or(said)
@@ -145,7 +161,30 @@ impl Faulty {
         None
     }
 
-    /// The same for the calls that only read, and for the restart.
+    /// The same for a reason, none if it is right.
+    fn reasoned(&self, right: Result<Reason, u32>, drive: &Drive) -> Option<Reason> {
+        Some(match (self.0, right) {
+            ("the last short pair for the first", Ok(Torn { partition, .. })) => {
+                let (cell, ones) =
+                    Layout::of(drive, partition)?.short_pairs(&drive.cells).last()?;
+                Torn { partition, cell: cell as u32, ones }
+            }
+            ("the ones of the low half", Ok(Torn { partition, cell, .. })) => {
+                Torn { partition, cell, ones: drive.cells[cell as usize].count_ones() }
+            }
+            ("a cell counted from the partition's first", Ok(Torn { partition, cell, ones })) => {
+                let first = Layout::of(drive, partition)?.range.start as u32;
+                Torn { partition, cell: cell - first, ones }
+            }
+            ("all erased where the map has no slot", Ok(NoSlot)) => AllErased,
+            ("a blank slot taken for a programmed one", Ok(Blank { .. })) => Available,
+            ("a refusal taken for no slot", Err(_)) => NoSlot,
+            ("the answer: the model says Reason(", Ok(AllErased)) => NoSlot,
+            _ => return None,
+        })
+    }
+
+    /// The same for the other calls that only read, and for the restart.
     fn others(&self, right: Said, lent: &mut Lent) -> Option<Said> {
         match (self.0, right) {
             ("the answer: the model says Answer(", Said::Answer(Answer::Withheld)) => {

@@ -15,7 +15,7 @@ pub struct Layout {
     pub zeroizable: bool,
     /// Cells of a data word.
     word_cells: usize,
-    bound: u32,
+    pub bound: u32,
 }
 
 impl Layout {
@@ -68,9 +68,17 @@ impl Layout {
         self.zeroizable && self.past_bound(cells) >= 0
     }
 
-    /// Whether some pair has fewer ones than the bound.
+    /// The pairs with fewer ones than the bound, ascending, each by its first cell in the
+    /// whole array and with its ones.
+    pub fn short_pairs<'a>(&self, cells: &'a [u32]) -> impl Iterator<Item = (usize, u32)> + 'a {
+        let (range, bound) = (self.range.clone(), self.bound);
+        let pairs = range.step_by(2).map(|first| (first, ones(&cells[first..first + 2])));
+        pairs.filter(move |(_, ones)| *ones < bound)
+    }
+
+    /// Whether there is such a pair.
     pub fn some_short(&self, cells: &[u32]) -> bool {
-        cells[self.range.clone()].chunks_exact(2).any(|pair| ones(pair) < self.bound)
+        self.short_pairs(cells).next().is_some()
     }
 
     /// "counted as zeroized, some pair short"

@@ -13,10 +13,10 @@ pub mod layout;
 pub mod maps;
 #[allow(unsafe_code)]
 pub mod painted;
+pub mod programs;
 pub mod proved;
 pub mod random;
 pub mod runner;
 pub mod small;
 pub mod stack;
-pub mod status;
 pub mod tally;

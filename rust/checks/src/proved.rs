@@ -3,7 +3,7 @@
 
 use crate::context;
 use model::{
-    Answer, Call, Command, Cut, Drive, Erase, Erasure, KeyBlock, Lent, Order, Reply, Said,
+    Answer, Call, Command, Cut, Drive, Erase, Erasure, KeyBlock, Lent, Order, Reason, Reply, Said,
     PARTITIONS,
 };
 use sciambrunola as proved;
@@ -31,6 +31,7 @@ pub fn answer(lent: &mut Lent, context: &mut Context, call: &Call) -> Said {
             States::Refused(number) => [number, 0],
             States::Listed(listing) => listed(lent, &listing),
         }),
+        Call::Why => Said::Reason(reason_of(proved::why(image, cells, marks))),
         Call::Place(number) => {
             Said::Place(context.place(*number as usize).map_or([0, 0], |tag| [1, tag]))
         }
@@ -74,6 +75,17 @@ fn listed(lent: &mut Lent, listing: &proved::Listing) -> [u32; 2] {
         }
     }
     [0, listing.len()]
+}
+
+fn reason_of(reason: proved::Reason) -> Result<Reason, u32> {
+    Ok(match reason {
+        proved::Reason::Available => Reason::Available,
+        proved::Reason::NoSlot => Reason::NoSlot,
+        proved::Reason::AllErased => Reason::AllErased,
+        proved::Reason::Blank { partition } => Reason::Blank { partition },
+        proved::Reason::Torn { partition, cell, ones } => Reason::Torn { partition, cell, ones },
+        proved::Reason::Refused(number) => return Err(number),
+    })
 }
 
 fn given(command: Command) -> proved::Command {

@@ -23,15 +23,15 @@ pub fn archive() -> PathBuf {
     in_repository("target/staticlib/libsciambrunola.a")
 }
 
-/// Runs the status program on its standard input. Pieces arrive with a pause between them, so that
-/// the program meets reads that bring less than it asked for.
-pub fn status(pieces: &[&[u8]]) -> Vec<u8> {
-    let program = in_repository("target/bin/status");
+/// The path of a proved program, `status` or `why`.
+pub fn program(name: &str) -> PathBuf {
+    let program = in_repository("target/bin").join(name);
     assert!(program.is_file(), "{} is missing: build it before these tests", program.display());
-    run(&program, pieces)
+    program
 }
 
-/// Runs any program on the pieces of its standard input, and gives what it printed. Fails the test
+/// Runs any program on its standard input, and gives what it printed. Pieces arrive with a pause
+/// between them, so that the program meets reads that bring less than it asked for. Fails the test
 /// if the program does not start, does not end, ends with a status other than 0 or prints to
 /// standard error. Input and output go through threads of their own, so that neither a full pipe
 /// nor a program that stops reading early can block the run.

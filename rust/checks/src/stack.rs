@@ -7,8 +7,8 @@ use crate::painted::depth;
 use crate::small::{self, SLOT};
 use model::mailbox::fields::Command as Mail;
 use model::{Drive, Lent, Request, Values};
-use sciambrunola::{direct, erase, erase_cut, mailbox, partition, restart, states};
-use sciambrunola::{Answer, Command, Context, Erasure, Fields, Reply, States};
+use sciambrunola::{direct, erase, erase_cut, mailbox, partition, restart, states, why};
+use sciambrunola::{Answer, Command, Context, Erasure, Fields, Reason, Reply, States};
 
 /// A software word of the small drive, which READ and WRITE may touch, and a
 /// slot word, which ZEROIZE may.
@@ -20,13 +20,29 @@ pub type Used = (&'static str, usize);
 
 /// The stack of every call.
 pub fn of_every_call() -> Vec<Used> {
-    static STARTED: Context = Context::new();
+    [of_reading(), of_changing()].concat()
+}
+
+/// That of the calls that only read.
+fn of_reading() -> Vec<Used> {
     let fields = carried_out(None, |Drive { image, .. }, _| {
         matches!(partition(image, SLOT), Fields::Partition { .. })
     });
     let states = carried_out(None, |Drive { image, cells, marks }, _| {
         matches!(states(image, cells, marks), States::Listed(_))
     });
+    // With its indicator burned the slot is torn, and its short pair is looked for.
+    let why = carried_out(None, |Drive { image, cells, marks }, _| {
+        (cells[4], cells[5]) = (u32::MAX, u32::MAX);
+        matches!(why(image, cells, marks), Reason::Torn { .. })
+    });
+    let place = carried_out(Some(1), |_, context| context.place(9) == Some(1));
+    vec![("fields", fields), ("states", states), ("why", why), ("place", place)]
+}
+
+/// That of the others.
+fn of_changing() -> Vec<Used> {
+    static STARTED: Context = Context::new();
     let erasure = carried_out(None, |Drive { image, cells, marks }, context| {
         matches!(erase(image, cells, marks, context, SLOT), Erasure::Ended { .. })
     });
@@ -38,9 +54,6 @@ pub fn of_every_call() -> Vec<Used> {
         *context == STARTED
     });
     vec![
-        ("fields", fields),
-        ("states", states),
-        ("place", carried_out(Some(1), |_, context| context.place(9) == Some(1))),
         ("READ", of_direct(Command::Read { cell: SOFTWARE_WORD })),
         ("WRITE", of_direct(Command::Write { cell: SOFTWARE_WORD, value: 5 })),
         ("ZEROIZE", of_direct(Command::Zeroize { cell: SLOT_WORD })),

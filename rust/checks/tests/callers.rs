@@ -1,7 +1,9 @@
 //! Callers. A C program is compiled with every warning an error, linked and run; its lines are
 //! written from document 01, with the mark 1F on cell 5: the indicator gets 59 ones, is
-//! withheld, and stops an erasure. A program that drops an erasure's answer is warned by its
-//! compiler, in C and in Rust: an erasure that ended is not yet an erased partition.
+//! withheld, and stops an erasure, so that the slot is still programmed and its HEK available.
+//! Other cells have the indicator set and three fuses of the digest: they are torn. A program
+//! that drops an erasure's answer is warned by its compiler, in C and in Rust: an erasure that
+//! ended is not yet an erased partition.
 
 use checks::runner::{compiled, in_repository, run};
 use std::path::{Path, PathBuf};
@@ -18,6 +20,9 @@ erasure: kind 2, refusal 15, short 0, first 0, burns 1
 KLOD: refusal 0, length 16, order 2, place 0, timeout 6
 KLOD: refusal 12, length 0, order 0, place 0, timeout 0
 place 0: kind 1, tag 700000005
+why: kind 0, refusal 0, partition 0, cell 0, ones 0
+why, torn: kind 4, refusal 0, partition 0, cell 2, ones 3
+why, a cell too few: kind 5, refusal 2, partition 0, cell 0, ones 0
 ";
 
 fn in_target(name: &str) -> PathBuf {

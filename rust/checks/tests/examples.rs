@@ -1,7 +1,8 @@
 //! The examples for C and for Rust print the same lines. They are written from document 01: "The
 //! small drive" gives the map and its fields, case 1 what FSTA answers, case 7 what the cut leaves
 //! and what the next erasure answers; a load takes place 0 ("Active slot and key cache"), an
-//! erasure of the slot is then refused with 10, and an erased slot is not active.
+//! erasure of the slot is then refused with 10, and an erased slot is not active. Why there is
+//! no key is document 02's P1.
 //!
 //! With a stuck mark on cell 1 the last erasure is that of case 3 (0F: 60 of 64
 //! ones, erased) or of case 4 (1F: 59 of 64 ones, short 1, torn), and an example
@@ -28,12 +29,14 @@ states: 0 torn, 2 short; 1 blank, 3 short
 const ERASED: &str = "\
 erasure: 0 short, 3 burns
 states: 0 erased, 0 short; 1 blank, 3 short
+why: every slot is erased
 FSTA: active slot 0xFFFFFFFF, HEK available 0
 ";
 
 const TORN: &str = "\
 erasure: 1 short, 3 burns
 states: 0 torn, 1 short; 1 blank, 3 short
+why: slot 0 is torn, its pair at cell 0 has 59 ones
 ";
 
 /// What the examples say of it on standard error.

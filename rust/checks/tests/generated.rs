@@ -1,9 +1,10 @@
-//! The status program against the model, over generated inputs, and on the small drive, for
-//! which the lines are document 01's.
+//! The programs `status` and `why` against the model and against each other, over generated
+//! inputs, and on the small drive, for which the table is document 01's.
 
+use checks::maps;
+use checks::programs::{self, agree, printed, with_model};
 use checks::random::Random;
 use checks::runner::in_repository;
-use checks::{maps, status};
 use model::Drive;
 use std::fs;
 
@@ -18,36 +19,61 @@ const LEAST: usize = 100;
 fn cuts() -> Vec<Vec<u8>> {
     let drive = |seed| {
         let map = if seed == 0 { maps::largest } else { maps::good };
-        status::of(&mut Random::new(seed), map)
+        programs::of(&mut Random::new(seed), map)
     };
-    (0..CUT_DRIVES).flat_map(|seed| status::around_boundaries(&drive(seed))).collect()
+    (0..CUT_DRIVES).flat_map(|seed| programs::around_boundaries(&drive(seed))).collect()
 }
 
 #[test]
-fn status_is_the_models_on_generated_inputs_of_every_outcome() {
-    let mut total = status::with_model(INPUTS, status::numbered);
+fn both_are_the_models_on_generated_inputs_of_every_outcome() {
+    let mut total = with_model(INPUTS, programs::numbered);
     let cuts = cuts();
-    total.merge(status::with_model(cuts.len(), |number| cuts[number].clone()));
-    total.check((INPUTS, "inputs"), status::possible(), LEAST);
+    total.merge(with_model(cuts.len(), |number| cuts[number].clone()));
+    total.check((INPUTS, "inputs"), programs::possible(), LEAST);
 }
 
 #[test]
-fn status_is_the_models_on_the_small_drive_cut_at_every_length() {
+fn both_are_the_models_on_the_small_drive_cut_at_every_length() {
     let whole = Drive::small().status_input();
     let given = fs::read(in_repository("crates/status/stdin")).expect("the program's own input");
     let expected = "part cells state short\n0 6 programmed 3\n1 6 blank 3\nhek 0\n";
-    assert_eq!((&whole, status::printed(&whole).as_str()), (&given, expected));
+    assert_eq!((&whole, printed("status", &whole).as_str()), (&given, expected));
+    assert_eq!(printed("why", &whole), "hek available\n");
     let lengths = whole.len() + 1;
-    status::with_model(lengths, |length| whole[..length].to_vec());
+    with_model(lengths, |length| whole[..length].to_vec());
 }
 
 #[test]
-fn status_is_the_models_on_the_small_drive_with_any_bit_flipped() {
+fn both_are_the_models_on_the_small_drive_with_any_bit_flipped() {
     let whole = Drive::small().status_input();
     let flipped = |bit: usize| {
         let mut input = whole.clone();
         input[bit / 8] ^= 1 << (bit % 8);
         input
     };
-    status::with_model(8 * whole.len(), flipped);
+    with_model(8 * whole.len(), flipped);
+}
+
+/// What holds of every output above can fail.
+#[test]
+fn a_table_and_a_line_that_tell_different_things_are_found() {
+    let torn = "hek none: the active slot, partition 1, is torn: the pair at cell 6 has 59 of 64 \
+                fuses set, at least 60 are needed\n";
+    let table =
+        |state, hek| format!("part cells state short\n0 6 erased 0\n1 6 {state} 1\nhek {hek}\n");
+    assert!(agree(&table("torn", "none"), torn) && agree("refused 2\n", "refused 2\n"));
+    assert!(agree(&table("programmed", "1"), "hek available\n"));
+    let rows = [
+        (table("blank", "none"), torn),
+        (table("programmed", "1"), torn),
+        (table("torn", "none"), "hek available\n"),
+        (table("programmed", "1"), "hek none: every slot is erased\n"),
+        (table("torn", "none").replace("1 6", "2 6"), torn),
+        (table("torn", "none"), "refused 1\n"),
+        ("refused 1\n".to_string(), "refused 2\n"),
+        ("refused 1\n".to_string(), "hek none: the map has no slot\n"),
+    ];
+    for (table, line) in rows {
+        assert!(!agree(&table, line), "{table}{line}");
+    }
 }

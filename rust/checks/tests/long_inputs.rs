@@ -1,13 +1,18 @@
-//! Document 01, "A status program": inputs that the program cannot read in
-//! one piece, or not whole.
+//! Document 01, "A status program": inputs that the program, or `why`, cannot read in
+//! one piece, or not whole; and numbers of as many digits as there can be.
 
-use checks::runner;
-use checks::status::printed;
+use checks::programs::printed;
+use checks::runner::{program, run};
+use model::{entry, Drive, Image, HARDWARE, SLOT_FLAGS};
 
 /// One partition of all 2,048 cells, not zeroizable, every fuse 0: the longest
 /// drive for its map of 16 bytes.
 const MAP: &[u8] = &[1, 0, 0, 8, 60, 0, 8, 0, 0, 0, 0, 8, 0, 0, 0, 0];
-const TABLE: &str = "part cells state short\n0 2048 blank 1024\nhek none\n";
+/// The programs, and what they print for it.
+const PRINTED: [(&str, &str); 2] = [
+    ("status", "part cells state short\n0 2048 blank 1024\nhek none\n"),
+    ("why", "hek none: the map has no slot\n"),
+];
 
 /// The drive's input, and `more` bytes behind it.
 fn input(more: usize) -> Vec<u8> {
@@ -16,15 +21,33 @@ fn input(more: usize) -> Vec<u8> {
 
 #[test]
 fn counts_of_four_digits_are_printed_whole() {
-    assert_eq!(printed(&input(0)), TABLE);
+    for (name, expected) in PRINTED {
+        assert_eq!(printed(name, &input(0)), expected);
+    }
 }
 
-/// 65,536 is the program's own buffer.
+/// Sixteen slots in 2,048 cells under the highest bound, all ones but for a fuse of the last
+/// slot's digest, the pair at cell 2,044.
+#[test]
+fn the_longest_line_of_why_is_printed_whole() {
+    let entries = (0..16).map(|number| entry(128 * number, 128, HARDWARE, SLOT_FLAGS)).collect();
+    let image = Image { cells: 2048, bound: 64, entries_at: 8, entries }.bytes();
+    let (mut cells, marks) = (vec![u32::MAX; 2048], vec![0; 2048]);
+    cells[2045] = u32::MAX >> 1;
+    let expected = "hek none: the active slot, partition 15, is torn: the pair at cell 2044 has \
+                    63 of 64 fuses set, at least 64 are needed\n";
+    assert_eq!(printed("why", &Drive { image, cells, marks }.status_input()), expected);
+}
+
+/// 65,536 is the programs' own buffer.
 #[test]
 fn anything_behind_the_longest_drive_is_refused_with_2() {
     let whole = input(0).len();
     for length in [whole + 1, 65_535, 65_536, 65_537, 200_000] {
-        assert_eq!(printed(&input(length - whole)), "refused 2\n", "{length} bytes");
+        for (name, _) in PRINTED {
+            let printed = printed(name, &input(length - whole));
+            assert_eq!(printed, "refused 2\n", "{name}, {length} bytes");
+        }
     }
 }
 
@@ -35,7 +58,10 @@ fn input_that_arrives_in_pieces_is_the_same_input() {
     for (first, size) in [(1000, 1000), (4096, 4096), (16_401, 16_401), (17, 8192)] {
         let mut pieces = vec![&input[..first]];
         pieces.extend(input[first..].chunks(size));
-        let printed = runner::status(&pieces);
-        assert_eq!(String::from_utf8_lossy(&printed), TABLE, "{first}, then pieces of {size}");
+        for (name, expected) in PRINTED {
+            let printed = run(&program(name), &pieces);
+            let printed = String::from_utf8_lossy(&printed);
+            assert_eq!(printed, expected, "{name}: {first}, then pieces of {size}");
+        }
     }
 }

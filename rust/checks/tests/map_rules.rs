@@ -1,8 +1,9 @@
 //! Document 01, "The map of the fuses": one broken image for each rule, and
 //! good images at the edges of the rules.
 
+use checks::drives;
+use checks::programs::{printed, PROGRAMS};
 use checks::random::Random;
-use checks::{drives, status};
 use model::map::{broken_rules, Rule};
 use model::{entry, Image, HARDWARE, LIFE_CYCLE, SECRET, SLOT, SLOT_FLAGS, SOFTWARE, ZEROIZABLE};
 use Rule::*;
@@ -160,12 +161,14 @@ fn every_rule_is_broken_alone_by_some_image() {
 
 /// Each input has exactly the cells and marks that its map's C asks for.
 #[test]
-fn status_refuses_each_broken_image_with_1_and_prints_the_models_table_for_a_good_one() {
+fn programs_refuse_each_broken_image_with_1_and_print_what_the_model_does_for_a_good_one() {
     for (name, image, rules) in cases() {
         let input = drives::over(&mut Random::new(59), image).status_input();
-        let printed = status::printed(&input);
-        let begins = if rules.is_empty() { "part cells state short\n" } else { "refused 1\n" };
-        assert!(printed.starts_with(begins), "{name}: {printed}");
-        assert_eq!(printed.as_bytes(), model::status::output(&input), "{name}: {printed}");
+        for ((program, model), accepted) in PROGRAMS.into_iter().zip(["part cells ", "hek "]) {
+            let printed = printed(program, &input);
+            let begins = if rules.is_empty() { accepted } else { "refused 1\n" };
+            assert!(printed.starts_with(begins), "{program}, {name}: {printed}");
+            assert_eq!(printed.as_bytes(), model(&input), "{program}, {name}: {printed}");
+        }
     }
 }

@@ -1,6 +1,6 @@
 //! The names of the C header and of the safe Rust calls have document 01's numbers. The kinds of
-//! answers and of places, the states, the orders and the words of a context have none there;
-//! theirs are the archive's, which `callers`, `cache_places` and `calls` see in its answers.
+//! answers and of places, the states, the reasons, the orders and the words of a context have none
+//! there; theirs are the archive's, which `callers`, `cache_places` and `calls` see in its answers.
 
 use checks::runner::{compiled, in_repository, printed};
 use sciambrunola::{code, flag, kind, refusal};
@@ -10,7 +10,7 @@ use std::process::Command;
 
 /// Every name of the header after `SCI_`, in its order, with its number in hexadecimal.
 const HEADER: &str = "\
-VERSION 5
+VERSION 6
 PLACES 10, CONTEXT_WORDS 20, BLOCK_BYTES 80, LEAST_RESPONSE 14, PARTITIONS 10
 KIND_HARDWARE 0, KIND_SOFTWARE 1, KIND_LIFE_CYCLE 2
 FLAG_ZEROIZABLE 1, FLAG_SECRET 2, FLAG_SLOT 4
@@ -19,6 +19,8 @@ REFUSAL_CHKSUM 5, REFUSAL_RESERVED 6, REFUSAL_NOT_FOUND 7, REFUSAL_FORBIDDEN 8
 REFUSAL_CLEARS_FUSE 9, REFUSAL_KEYS_HELD A, REFUSAL_NO_HEK B, REFUSAL_TAG_HELD C
 REFUSAL_NO_PLACE D, REFUSAL_TAG_NOT_HELD E, REFUSAL_INDICATOR_SHORT F
 STATE_ERASED 0, STATE_TORN 1, STATE_BLANK 2, STATE_PROGRAMMED 3
+REASON_AVAILABLE 0, REASON_NO_SLOT 1, REASON_ALL_ERASED 2
+REASON_BLANK 3, REASON_TORN 4, REASON_REFUSED 5
 PLACE_EMPTY 0, PLACE_HELD 1
 WORD 0, DONE 1, WITHHELD 2, REFUSED 3
 ENDED 0, CUT 1, ERASURE_REFUSED 2

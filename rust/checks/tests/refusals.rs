@@ -1,8 +1,9 @@
-//! Document 01, "A status program": its refusals, in the document's order.
+//! Document 01, "A status program": its refusals, in the document's order, which are those of
+//! `why` too.
 //!
 //! The inputs are pieces laid end to end; each piece is named after what is wrong with it.
 
-use checks::status::printed;
+use checks::programs::both;
 
 /// The small drive's map, its twelve cells or marks being zeros here.
 const MAP: &[u8] = &[2, 0, 12, 0, 60, 0, 8, 0, 0, 0, 6, 0, 0, 7, 0, 0, 6, 0, 6, 0, 1, 0, 0, 0];
@@ -15,16 +16,18 @@ const LENGTH: &[u8] = &[24, 0];
 const RUN: usize = 48;
 
 const TABLE: &str = "part cells state short\n0 6 blank 3\n1 6 blank 3\nhek none\n";
+const LINE: &str = "hek none: the active slot, partition 0, is blank: it holds no seed\n";
 
+/// Both programs print the same.
 fn check(cases: &[(&str, &[&[u8]], &str)]) {
     for (name, pieces, expected) in cases {
-        assert_eq!(printed(&pieces.concat()), *expected, "{name}");
+        assert_eq!(both(&pieces.concat()), [*expected; 2], "{name}");
     }
 }
 
 #[test]
 fn an_input_with_nothing_wrong_is_not_refused() {
-    check(&[("all of it", &[LENGTH, MAP, &ZEROS[..2 * RUN]], TABLE)]);
+    assert_eq!(both(&[LENGTH, MAP, &ZEROS[..2 * RUN]].concat()), [TABLE, LINE]);
 }
 
 #[test]

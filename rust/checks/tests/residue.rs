@@ -35,10 +35,14 @@ fn secret(drive: &Drive) -> Vec<(Range<usize>, bool)> {
 }
 
 /// Gives the cells of secret partitions values that they are known by, but for the
-/// indicator, which decides what a call comes to.
+/// indicator, which decides what a call comes to, and for data without a set fuse, which
+/// hold nothing: a blank slot stays blank.
 fn make_known(random: &mut Random, drive: &mut Drive) {
     for (range, indicator) in secret(drive) {
-        for cell in range.start..range.end - if indicator { 2 } else { 0 } {
+        let end = range.end - if indicator { 2 } else { 0 };
+        let (data, digest) = (range.start..end - 2, end - 2..end);
+        let blank = drive.cells[data].iter().all(|cell| *cell == 0);
+        for cell in if blank { digest } else { range.start..end } {
             while !is_telling(&drive.cells[cell].to_le_bytes()) {
                 drive.cells[cell] = random.cell();
             }

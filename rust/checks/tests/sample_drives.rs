@@ -1,21 +1,25 @@
-//! The sample drives of `drives/`: what the status program prints for each is what stands beside
+//! The sample drives of `drives/`: what `status` and `why` print for each is what stands beside
 //! it, and what an erasure or a cut is said to have left is what the library leaves.
 
 use checks::calls::commands::low_bits;
+use checks::programs::{printed, PROGRAMS};
 use checks::proved::Proved;
 use checks::runner::in_repository;
-use checks::status;
 use drives::Drive;
 use model::{Call, Cut, Erase, KeyBlock, Lent, Map};
 use std::collections::BTreeSet;
 use std::fs;
 
 /// The samples of other drives than the small one, with the partitions that were erased.
-const OF_OTHERS: [(&str, &[usize]); 3] =
-    [("customers_number", &[0]), ("torn_slot_first", &[0]), ("two_slots", &[0, 3, 4])];
+const OF_OTHERS: [(&str, &[usize]); 4] = [
+    ("customers_number", &[0]),
+    ("torn_slot_first", &[0]),
+    ("torn_slot_second", &[0, 1]),
+    ("two_slots", &[0, 3, 4]),
+];
 
 /// The samples that no erasure has touched.
-const UNTOUCHED: [&str; 3] = ["fresh", "programmed", "refused_map"];
+const UNTOUCHED: [&str; 4] = ["fresh", "no_slot", "programmed", "refused_map"];
 
 /// The names of the files in `drives/` that end so.
 fn names(ending: &str) -> BTreeSet<String> {
@@ -36,29 +40,34 @@ fn drive(name: &str) -> Drive {
 }
 
 #[test]
-fn status_prints_what_stands_beside_each_text_which_begins_with_what_happened() {
-    assert_eq!(names(".txt"), names(".status"));
-    for name in names(".txt") {
-        let printed = status::printed(&drive(&name).bytes());
-        assert_eq!(printed, text(&format!("{name}.status")), "{name}");
-        assert!(text(&format!("{name}.txt")).starts_with("# "), "{name}: what happened");
+fn programs_print_what_stands_beside_each_text_which_begins_with_what_happened() {
+    for (program, _) in PROGRAMS {
+        assert_eq!(names(".txt"), names(&format!(".{program}")));
+        for name in names(".txt") {
+            let printed = printed(program, &drive(&name).bytes());
+            assert_eq!(printed, text(&format!("{name}.{program}")), "{name}, {program}");
+            assert!(text(&format!("{name}.txt")).starts_with("# "), "{name}: what happened");
+        }
     }
 }
 
-/// A row is `| name | what happened | lines of the output |`, the name and each of
-/// the lines in backticks; the output's last line is among them.
+/// A row is `| name | what happened | lines of the table | line of why |`, the name and
+/// each of the lines in backticks; each output's last line is the last of its column.
 #[test]
-fn table_has_a_row_for_each_sample_and_quotes_its_output() {
+fn table_has_a_row_for_each_sample_and_quotes_its_outputs() {
     let readme = text("README.md");
     let rows = readme.lines().filter_map(|line| line.strip_prefix("| `"));
     let mut named = BTreeSet::new();
     for row in rows {
-        let (name, rest) = row.split_once('`').expect("the name is in backticks");
-        let (_, quoted) = rest.trim_end_matches(" |").rsplit_once(" | ").expect("three columns");
-        let output = text(&format!("{name}.status"));
-        let quoted: Vec<&str> = quoted.split('`').skip(1).step_by(2).collect();
-        assert!(quoted.iter().all(|quote| output.lines().any(|line| line == *quote)), "{name}");
-        assert_eq!(quoted.last().copied(), output.lines().last(), "{name}");
+        let columns: Vec<&str> = row.trim_end_matches(" |").split(" | ").collect();
+        let [name, _, table, line]: [&str; 4] = columns.try_into().expect("four columns");
+        let name = name.strip_suffix('`').expect("the name is in backticks");
+        for (program, column) in [("status", table), ("why", line)] {
+            let output = text(&format!("{name}.{program}"));
+            let quoted: Vec<&str> = column.split('`').skip(1).step_by(2).collect();
+            assert!(quoted.iter().all(|quote| output.lines().any(|line| line == *quote)), "{name}");
+            assert_eq!(quoted.last().copied(), output.lines().last(), "{name}, {program}");
+        }
         assert!(named.insert(name.to_string()), "{name} twice");
     }
     assert_eq!(named, names(".txt"));

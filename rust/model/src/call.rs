@@ -1,5 +1,5 @@
-//! Document 01: every call of the key block, what it answers, and the model as
-//! one key block among others.
+//! Document 01, and P1 of document 02: every call of the key block, what it answers, and
+//! the model as one key block among others.
 
 use crate::direct::{self, Answer, Command};
 use crate::erasure::{self, Erase, Erasure};
@@ -7,6 +7,7 @@ use crate::lent::Lent;
 use crate::mailbox::request::Request;
 use crate::mailbox::{self, fields, Reply};
 use crate::refusal::Refusal;
+use crate::why::{self, Reason};
 use crate::{cache, reading};
 use std::fmt;
 
@@ -17,6 +18,8 @@ pub enum Call {
     Partition(u32),
     /// "Burning and counting": the states and short pairs of all partitions.
     States,
+    /// Document 02, P1: why the drive offers no key.
+    Why,
     /// "Active slot and key cache": what this place of the cache holds.
     Place(u32),
     /// "Direct commands"
@@ -29,14 +32,16 @@ pub enum Call {
     Restart,
 }
 
-/// What a call answered. The calls that only read answer numbers, in the order of
-/// the C header: of a refusal all but its number are 0.
+/// What a call answered. The calls of document 01 that only read answer numbers, in the
+/// order of the C header: of a refusal all but its number are 0.
 #[derive(Clone, Copy, Debug, PartialEq, Eq)]
 pub enum Said {
     /// Refusal or 0, P, C, B, first cell, n, kind, flags.
     Fields([u32; 8]),
     /// Refusal or 0, P.
     Listing([u32; 2]),
+    /// The reason, or the number of the refusal.
+    Reason(Result<Reason, u32>),
     /// 0 for an empty place or 1 for a held one, and its tag.
     Place([u64; 2]),
     /// What a direct command answers.
@@ -65,6 +70,7 @@ impl KeyBlock for Model {
             Call::Partition(number) => {
                 return Said::Fields(reading::numbers(&lent.drive.image, *number));
             }
+            Call::Why => return Said::Reason(why::why(&lent.drive)),
             Call::Place(number) => return Said::Place(lent.cache.told(*number)),
             Call::States => told(reading::list(lent), Said::Listing),
             Call::Direct(command) => told(direct::direct(lent, *command), Said::Answer),
@@ -88,6 +94,7 @@ impl Call {
         match self {
             Call::Partition(_) => "fields",
             Call::States => "states",
+            Call::Why => "why",
             Call::Place(_) => "place",
             Call::Direct(Command::Read { .. }) => "READ",
             Call::Direct(Command::Write { .. }) => "WRITE",
@@ -103,7 +110,7 @@ impl Call {
     pub fn applying(&self, before: &Lent) -> Vec<Refusal> {
         match self {
             Call::Partition(number) => reading::applying_to_fields(&before.drive.image, *number),
-            Call::States => reading::applying(&before.drive),
+            Call::States | Call::Why => reading::applying(&before.drive),
             Call::Direct(command) => direct::applying(before, *command),
             Call::Erase(erase) => erasure::applying(before, *erase),
             Call::Mailbox(request) => mailbox::applying(before, request),
@@ -117,7 +124,7 @@ impl Said {
     pub fn refusal(self) -> Option<u32> {
         match self {
             Said::Fields([number, ..]) | Said::Listing([number, _]) => Some(number),
-            Said::Answer(Answer::Refused(number)) => Some(number),
+            Said::Reason(Err(number)) | Said::Answer(Answer::Refused(number)) => Some(number),
             Said::Erasure(Erasure::Refused { number, .. }) => Some(number),
             Said::Reply(Reply::Refused(number)) => Some(number),
             _ => None,

@@ -45,7 +45,7 @@ impl Drive {
     }
 
     /// "The small drive": the standard input of the status program, "a u16 map
-    /// length, the map, C cells, C marks".
+    /// length, the map, C cells, C marks", which `why` reads too.
     pub fn status_input(&self) -> Vec<u8> {
         let length = u16::try_from(self.image.len()).expect("the map length is a u16");
         let mut input = length.to_le_bytes().to_vec();

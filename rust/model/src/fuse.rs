@@ -27,7 +27,12 @@ pub fn word(cells: &[u32], first: usize, size: Size) -> u64 {
     }
 }
 
+/// "Burning and counting": a pair's "number of ones".
+pub fn ones(pair: [u32; 2]) -> u32 {
+    pair[0].count_ones() + pair[1].count_ones()
+}
+
 /// "Burning and counting": "A pair is short when its number of ones is below B."
 pub fn short(pair: [u32; 2], bound: u64) -> bool {
-    u64::from(pair[0].count_ones() + pair[1].count_ones()) < bound
+    u64::from(ones(pair)) < bound
 }

@@ -1,6 +1,7 @@
-//! A plain reading of document 01, written from the document alone.
+//! A plain reading of document 01, and of P1 of document 02, written from the documents
+//! alone.
 //!
-//! Each file names the section of document 01 that it reads. Nothing here is
+//! Each file names the section or the request that it reads. Nothing here is
 //! tuned for speed, and nothing is shared with the programs it is compared to.
 #![forbid(unsafe_code)]
 #![deny(missing_docs)]
@@ -20,6 +21,7 @@ pub mod reading;
 pub mod refusal;
 pub mod slot;
 pub mod status;
+pub mod why;
 
 pub use cache::{Cache, PLACES};
 pub use call::{Call, KeyBlock, Model, Said};
@@ -35,3 +37,4 @@ pub use map::{Entry, Header, Map, Part, Size, Word};
 pub use map::{HARDWARE, LIFE_CYCLE, SECRET, SLOT, SOFTWARE, ZEROIZABLE};
 pub use partition::{Partition, State};
 pub use refusal::Refusal;
+pub use why::Reason;

@@ -68,7 +68,8 @@ pub fn applying_to_fields(image: &[u8], partition: u32) -> Vec<Refusal> {
     ])
 }
 
-/// "Refusal numbers": every refusal that applies where the states are asked for.
+/// "Refusal numbers": every refusal that applies where the states are asked for or, by P1
+/// of document 02, "Refusals: 1, 2", the reason.
 pub fn applying(drive: &Drive) -> Vec<Refusal> {
     refusal::that_apply([
         (Refusal::BadMap, drive.map().is_none()),

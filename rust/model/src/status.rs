@@ -8,8 +8,14 @@ use crate::slot;
 
 /// "The small drive": what the status program prints for this standard input.
 pub fn output(input: &[u8]) -> Vec<u8> {
+    printed(input, table)
+}
+
+/// What a program prints for the status program's standard input: this text of a drive, or
+/// the refusal.
+pub(crate) fn printed(input: &[u8], text: fn(&Map, &[u32]) -> String) -> Vec<u8> {
     let text = match read(input) {
-        Ok((map, cells)) => table(&map, &cells),
+        Ok((map, cells)) => text(&map, &cells),
         Err(refusal) => format!("refused {}\n", refusal.number()),
     };
     text.into_bytes()

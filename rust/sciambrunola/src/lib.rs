@@ -1,6 +1,6 @@
 //! The proved key block of a drive controller: the map of its fuses, the states
-//! of its partitions, direct commands on its fuses, the erasure of a partition,
-//! the key cache of 16 places, and the mailbox.
+//! of its partitions, why it offers no key, direct commands on its fuses, the
+//! erasure of a partition, the key cache of 16 places, and the mailbox.
 //!
 //! Every function answers for any bytes and any lengths, and a refusal changes
 //! nothing that is lent, save that 15 leaves the indicator burned. The refusal
@@ -26,6 +26,7 @@ mod context;
 mod fields;
 #[allow(unsafe_code)]
 mod raw;
+mod reason;
 mod states;
 
 pub use answer::{Answer, Erasure, Order, Reply};
@@ -34,6 +35,7 @@ pub use constants::{BLOCK_BYTES, CONTEXT_WORDS, LEAST_RESPONSE, PARTITIONS, PLAC
 pub use constants::{NO_CELL, NO_SLOT, VERSION};
 pub use context::Context;
 pub use fields::Fields;
+pub use reason::Reason;
 pub use states::{Listing, State, States};
 
 /// A direct command (document 01, "Direct commands"). Each names a word by its
@@ -71,6 +73,15 @@ pub fn partition(image: &[u8], number: u32) -> Fields {
 /// map says are refused too.
 pub fn states(image: &[u8], cells: &[u32], marks: &[u32]) -> States {
     States::of(image, cells, marks)
+}
+
+/// Why the drive offers no key: walks the map's slots until the first that is not
+/// erased, the active one. Changes nothing.
+///
+/// The reason does not depend on the marks, but marks that are not as many as the
+/// map says are refused too.
+pub fn why(image: &[u8], cells: &[u32], marks: &[u32]) -> Reason {
+    Reason::from_raw(raw::why(image, cells, marks))
 }
 
 /// Carries out a direct command on the fuses that `image` maps.

@@ -12,6 +12,12 @@ pub(crate) const STATE_ERASED: u32 = 0;
 pub(crate) const STATE_TORN: u32 = 1;
 pub(crate) const STATE_BLANK: u32 = 2;
 
+pub(crate) const REASON_AVAILABLE: u32 = 0;
+pub(crate) const REASON_NO_SLOT: u32 = 1;
+pub(crate) const REASON_ALL_ERASED: u32 = 2;
+pub(crate) const REASON_BLANK: u32 = 3;
+pub(crate) const REASON_TORN: u32 = 4;
+
 pub(crate) const WORD: u32 = 0;
 pub(crate) const DONE: u32 = 1;
 pub(crate) const WITHHELD: u32 = 2;
@@ -43,6 +49,16 @@ pub(crate) struct Fields {
 pub(crate) struct Listing {
     pub(crate) refusal: u32,
     pub(crate) partitions: u32,
+}
+
+/// `sci_reason`
+#[repr(C)]
+pub(crate) struct Reason {
+    pub(crate) kind: u32,
+    pub(crate) refusal: u32,
+    pub(crate) partition: u32,
+    pub(crate) cell: u32,
+    pub(crate) ones: u32,
 }
 
 /// `sci_place`
@@ -147,6 +163,15 @@ extern "C" {
         short_pairs: *mut u32,
     ) -> Listing;
 
+    fn sci_why(
+        image: *const u8,
+        image_bytes: usize,
+        cells: *const u32,
+        cell_count: usize,
+        marks: *const u32,
+        mark_count: usize,
+    ) -> Reason;
+
     fn sci_cache_place(context: *const Context, place: u32) -> Place;
 
     fn sci_restart(context: *mut Context);
@@ -201,6 +226,12 @@ pub(crate) fn states(
             short_pairs.as_mut_ptr(),
         )
     }
+}
+
+pub(crate) fn why(image: &[u8], cells: &[u32], marks: &[u32]) -> Reason {
+    let (map, fuses, stuck) = (image.as_ptr(), cells.as_ptr(), marks.as_ptr());
+    // SAFETY: every pointer and count is that of a borrowed slice, which is only read.
+    unsafe { sci_why(map, image.len(), fuses, cells.len(), stuck, marks.len()) }
 }
 
 pub(crate) fn cache_place(context: &Context, place: u32) -> Place {

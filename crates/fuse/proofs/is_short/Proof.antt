@@ -1,10 +1,7 @@
--- `fuse::is_short` meets its contract: by `ones` and `pair`. Assumes nothing.
+-- `fuse::is_short` meets its contract: by `ones`. Assumes nothing.
 use borrow.Author.Needs.{needs}
 use Rattle.fuse.proofs.is_short.Statement.{statement}
 use Rattle.fuse.proofs.is_short.Tie as tie
-
-pair-requires : tie.Need-pair-requires
-pair-requires c κs = search needs
 
 ones-requires : tie.Need-ones-requires
 ones-requires c κs = search needs
@@ -13,4 +10,4 @@ returns : tie.Need-returns
 returns c = cc
 
 pub is-short-spec : {M : Type 1} → statement M
-is-short-spec = tie.close (tie.spec pair-requires ones-requires returns)
+is-short-spec = tie.close (tie.spec ones-requires returns)

@@ -1,59 +1,28 @@
--- `partition::lowest_short` meets its contract: the loop's invariant: the search from `j` on answers for the whole. Assumes nothing.
-use Prim.Native.Nat.{_≤_, _-_}
-use mathlib.Core.Path.{_≡_, sym, _∙_}
+-- `partition::lowest_short` meets its contract: by where the search ended. Assumes nothing.
+use mathlib.Core.Path.{_≡_, sym}
 use native.Mathlib.Omega.{arith}
 use borrow.Author.Needs.{needs}
-use Rattle.laws.specs.Below.{firstFrom, first-start, first-here, first-next, first-end}
-use Rattle.partition.specs.Partition.{shortAt, lowestPair}
+use Rattle.laws.specs.Below.{first-tells}
+use Rattle.partition.specs.Partition.{pairs, shortAt, lowestPair}
 use Rattle.partition.specs.Laws.{lowest-cell, lowest-none}
 use Rattle.partition.proofs.lowest_short.Statement.{statement}
 use Rattle.partition.proofs.lowest_short.Tie as tie
 
-abbrev Inv-loop : tie.InvT-loop
-Inv-loop part bound end j₀ j = (j ≤ end) × (lowestPair bound part ≡ firstFrom (shortAt bound part) j (end - j))
+lowest-pair-requires : tie.Need-lowest-pair-requires
+lowest-pair-requires c κs = search needs
 
-abbrev μ-loop : tie.MeasureT-loop
-μ-loop part bound end j₀ j = end - j
+mul-t7 : tie.Need-mul-t7
+mul-t7 c = search needs
 
-loop-holds : tie.Need-loop-holds Inv-loop μ-loop
-loop-holds c = (omega arith, first-start _ _)
+returns : tie.Need-returns
+returns c = lowest-cell _ _ _ (c .if1 .taken) (sym (c .before .lowest-pair .ensures))
 
-short-at-requires : tie.Need-short-at-requires Inv-loop μ-loop
-short-at-requires c κs = search needs
-
-mul-t8 : tie.Need-mul-t8 Inv-loop μ-loop
-mul-t8 c = search needs
-
-returns : tie.Need-returns Inv-loop μ-loop
-returns c =
-    let turn = c .before .before in
-    lowest-cell _ _ _ (turn .loop-test .taken) (turn .before .loop .inv .1 ∙ first-here _ _ _ (turn .loop-test .taken) (sym (c .before .short-at .ensures) ∙ c .if1 .taken))
-
-add-j : tie.Need-add-j Inv-loop μ-loop
-add-j c = search needs
-
-loop-less : tie.Need-loop-less Inv-loop μ-loop
-loop-less c = search needs
-
-loop-again : tie.Need-loop-again Inv-loop μ-loop
-loop-again c =
-    let turn = c .before .before in
-    (omega arith, turn .before .loop .inv .1 ∙ first-next _ _ _ (turn .loop-test .taken) (sym (c .before .short-at .ensures) ∙ c .if1 .left))
-
-returns-2 : tie.Need-returns-2 Inv-loop μ-loop
-returns-2 c = lowest-none _ _ (c .before .loop .inv .1 ∙ first-end _ _ _ (omega arith))
+returns-2 : tie.Need-returns-2
+returns-2 c =
+    let a = c .before .before .before .args in
+    let end : lowestPair (a .bound) (a .part .now) ≡ pairs (a .part .now) =
+    omega (arith, c .before .lowest-pair .ensures, first-tells (shortAt (a .bound) (a .part .now)) 0 (pairs (a .part .now)) .most) in
+    lowest-none _ _ end
 
 pub lowest-short-spec : {M : Type 1} → statement M
-lowest-short-spec =
-    tie.close
-    (tie.spec
-    Inv-loop
-    μ-loop
-    loop-holds
-    short-at-requires
-    mul-t8
-    returns
-    add-j
-    loop-less
-    loop-again
-    returns-2)
+lowest-short-spec = tie.close (tie.spec lowest-pair-requires mul-t7 returns returns-2)

@@ -45,8 +45,8 @@ read-cells-requires c κs = let t = told (c .before .before) in omega arith
 array-share-prefix-numbers : tie.Need-array-share-prefix-numbers
 array-share-prefix-numbers c = let t = told (c .before .before .before .before .before) in omega (arith, c .before .before .read-cells .kept .1 .1 .1 .0)
 
-slice-aggregate-put-table : tie.Need-slice-aggregate-put-table
-slice-aggregate-put-table c = let t = told (c .before .before .before .before .before .before) in simp length-take (omega (arith, c .before .before .before .read-cells .kept .1 .1 .1 .0))
+slice-aggregate-put-output : tie.Need-slice-aggregate-put-output
+slice-aggregate-put-output c = let t = told (c .before .before .before .before .before .before) in simp length-take (omega (arith, c .before .before .before .read-cells .kept .1 .1 .1 .0))
 
 -- the cells that were read are the input's
 read : (c : tie.After-numbers3) → let start = c .before .before .before .before .before .before .before .before .before .before .before in take (c .before .before .before .before .before .before .read-header .result .cells) (c .before .before .before .read-cells .last .1 .1 .1 .0) ≡ inputCells (start .args .input .now)
@@ -54,8 +54,8 @@ read c =
     let h = c .before .before .before .before .before .before in
     cells-are _ _ _ _ _ (h .before .before .u16-at .ensures) (told h .count) (c .before .before .before .read-cells .ensures)
 
-put-table-requires : tie.Need-put-table-requires
-put-table-requires c κs =
+put-output-requires : tie.Need-put-output-requires
+put-output-requires c κs =
     let t = told (c .before .before .before .before .before .before) in
     (rw (t .image, read c) (record { good = t .good; long = cells-long _ }), c .before .before .before .before .before .before .before .before .before .before .before .pre .1)
 
@@ -66,7 +66,7 @@ returns : tie.Need-returns
 returns c =
     let n = c .before .before .before in
     let t = told (n .before .before .before .before .before .before) in
-    rw (t .image, read n) at (c .before .before .put-table .ensures)
+    rw (t .image, read n) at (c .before .before .put-output .ensures)
 
 pub put-drive-spec : {M : Type 1} → statement M
 put-drive-spec =
@@ -83,7 +83,7 @@ put-drive-spec =
     slice-aggregate-read-cells
     read-cells-requires
     array-share-prefix-numbers
-    slice-aggregate-put-table
-    put-table-requires
+    slice-aggregate-put-output
+    put-output-requires
     same-length
     returns)

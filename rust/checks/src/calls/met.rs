@@ -1,35 +1,14 @@
 //! What is to be met in generated calls: each outcome of each call, each pair of
 //! refusals that can apply to one call, and sights that no outcome names.
 
+use super::outcomes::{came, outcomes};
 use crate::layout::Layout;
 use crate::tally::{self, Row};
+use model::Reason::{Blank, Torn};
 use model::{
-    fuse, Answer, Call, Command, Cut, Entry, Erase, Erasure, Lent, Order, Part, Partition, Refusal,
-    Reply, Said, Size, Word, LIFE_CYCLE,
+    fuse, Call, Command, Cut, Entry, Erase, Erasure, Lent, Order, Part, Partition, Refusal, Reply,
+    Said, Size, Word, LIFE_CYCLE,
 };
-
-/// What each call can come to when it is carried out, and its refusals. The states
-/// come to any number of partitions.
-const OUTCOMES: [(&str, &[&str], &[u32]); 15] = [
-    ("fields", &KINDS_AND_FLAGS, &[1, 7]),
-    ("states", &[], &[1, 2]),
-    ("place", &["empty", "held"], &[]),
-    ("READ", &["word"], &[1, 2, 7, 8]),
-    ("WRITE", &["word", "done"], &[1, 2, 7, 8, 9, 10]),
-    ("ZEROIZE", &["word", "withheld"], &[1, 2, 7, 8, 10]),
-    ("erasure", &["erased"], &[1, 2, 7, 8, 10, 15]),
-    ("cut erasure", &["cut", "erased"], &[1, 2, 7, 8, 10, 15]),
-    ("restart", &["nothing"], &[]),
-    ("CLKC", &["clear"], &[1, 2, 4, 5, 6]),
-    ("KLOD", &["load"], &[1, 2, 4, 5, 6, 11, 12, 13]),
-    ("KUNL", &["unload"], &[1, 2, 4, 5, 6, 14]),
-    ("FERS", &["none"], &[1, 2, 4, 5, 6, 7, 8, 10, 15]),
-    ("FSTA", &["none"], &[1, 2, 4, 5, 6]),
-    ("other", &[], &[1, 2, 3]),
-];
-
-/// The kinds and flags that a partition of a good map can have.
-const KINDS_AND_FLAGS: [&str; 8] = ["0/0", "0/1", "0/2", "0/3", "0/7", "1/0", "1/1", "2/0"];
 
 /// The refusals that can apply to one call together with a higher one.
 const PAIRS: [(u32, &[u32]); 11] = [
@@ -47,10 +26,10 @@ const PAIRS: [(u32, &[u32]); 11] = [
 ];
 
 /// Whether a WRITE of a value may not touch a word.
-type Reason = fn(&Named, u64) -> bool;
+type Forbids = fn(&Named, u64) -> bool;
 
 /// Each is to be met alone.
-const REASONS: &[Row<Reason>] = &[
+const FORBIDDEN: &[Row<Forbids>] = &[
     ("the digest", |named, _| named.word.part == Part::Digest),
     ("the indicator", |named, _| named.word.part == Part::Indicator),
     ("life cycle", |named, _| named.entry.kind == LIFE_CYCLE),
@@ -107,17 +86,12 @@ const SIGHTS: &[Row<Sight>] = &[
     ("states: refused with 1 where 2 applies", |s| {
         s.came == "states refused 1" && s.applying.len() == 2
     }),
+    ("why: an erased slot passed over", |s| s.passes_over()),
+    ("why: torn at B - 1", |s| s.torn(|p, _, ones| ones + 1 == p.bound)),
+    ("why: torn at 0", |s| s.torn(|_, _, ones| ones == 0)),
+    ("why: torn at the digest", |s| s.torn(|p, cell, _| cell + 2 == p.indicator().start)),
+    ("why: refused with 1 where 2 applies", |s| s.came == "why refused 1" && s.applying.len() == 2),
 ];
-
-/// Every outcome of every call.
-pub fn outcomes() -> Vec<String> {
-    let mut keys: Vec<String> = (1..=16).map(|count| format!("states {count}")).collect();
-    for (name, carried_out, refusals) in OUTCOMES {
-        keys.extend(carried_out.iter().map(|outcome| format!("{name} {outcome}")));
-        keys.extend(refusals.iter().map(|number| format!("{name} refused {number}")));
-    }
-    keys
-}
 
 /// Everything that a run has to meet.
 pub fn possible() -> Vec<String> {
@@ -125,7 +99,7 @@ pub fn possible() -> Vec<String> {
     for (low, higher) in PAIRS {
         keys.extend(higher.iter().map(|high| format!("{low}+{high}")));
     }
-    keys.extend(tally::names(REASONS).into_iter().map(alone).chain(tally::names(SIGHTS)));
+    keys.extend(tally::names(FORBIDDEN).into_iter().map(alone).chain(tally::names(SIGHTS)));
     keys
 }
 
@@ -144,7 +118,7 @@ pub struct Seen<'a> {
     applying: Vec<Refusal>,
     /// The word that a direct command names.
     named: Option<Named>,
-    /// The partitions, for erasures and states.
+    /// The partitions, for erasures, states and reasons.
     partitions: Vec<Layout>,
 }
 
@@ -163,7 +137,7 @@ impl<'a> Seen<'a> {
     pub fn of(call: &'a Call, before: &'a Lent, said: Said, after: &'a Lent) -> Seen<'a> {
         let (named, partitions) = match call {
             Call::Direct(command) => (named(*command, after), vec![]),
-            Call::Erase(_) | Call::States => (None, Layout::all(&after.drive)),
+            Call::Erase(_) | Call::States | Call::Why => (None, Layout::all(&after.drive)),
             _ => (None, vec![]),
         };
         let came = came(call, said);
@@ -180,7 +154,7 @@ impl<'a> Seen<'a> {
         if let (Call::Direct(Command::Write { value, .. }), Some(8), Some(named)) =
             (self.call, self.said.refusal(), self.named)
         {
-            let mut reasons = tally::that_hold(REASONS, |holds| holds(&named, *value));
+            let mut reasons = tally::that_hold(FORBIDDEN, |holds| holds(&named, *value));
             met.extend(reasons.pop().filter(|_| reasons.is_empty()).map(alone));
         }
         met.push(self.came);
@@ -253,34 +227,26 @@ impl<'a> Seen<'a> {
         let at = |p: &Layout| p.zeroizable && p.past_bound(self.cells()) == ones;
         matches!(self.call, Call::States) && self.partitions.iter().any(at)
     }
-}
 
-/// A call's name and what it came to.
-pub fn came(call: &Call, said: Said) -> String {
-    format!("{} {}", call.name(), outcome(said))
-}
+    /// Whether a slot lies before the one that a reason names.
+    fn passes_over(&self) -> bool {
+        match (self.said, self.after.drive.map()) {
+            (Said::Reason(Ok(Blank { partition } | Torn { partition, .. })), Some(map)) => {
+                map.entries()[..partition as usize].iter().any(Entry::slot)
+            }
+            _ => false,
+        }
+    }
 
-fn outcome(said: Said) -> String {
-    if let Some(number) = said.refusal() {
-        return format!("refused {number}");
+    /// Whether this holds of a torn slot that a reason names, and of its pair's cell and ones.
+    fn torn(&self, holds: fn(&Layout, usize, u32) -> bool) -> bool {
+        match self.said {
+            Said::Reason(Ok(Torn { partition, cell, ones })) => {
+                holds(&self.partitions[partition as usize], cell as usize, ones)
+            }
+            _ => false,
+        }
     }
-    match said {
-        Said::Fields([.., kind, flags]) => return format!("{kind}/{flags}"),
-        Said::Listing([_, partitions]) => return partitions.to_string(),
-        Said::Place([0, _]) => "empty",
-        Said::Place(_) => "held",
-        Said::Answer(Answer::Word(_)) => "word",
-        Said::Answer(Answer::Done) => "done",
-        Said::Answer(_) => "withheld",
-        Said::Erasure(Erasure::Cut { .. }) => "cut",
-        Said::Erasure(_) => "erased",
-        Said::Reply(Reply::Accepted { order: Order::Clear { .. }, .. }) => "clear",
-        Said::Reply(Reply::Accepted { order: Order::Load { .. }, .. }) => "load",
-        Said::Reply(Reply::Accepted { order: Order::Unload { .. }, .. }) => "unload",
-        Said::Reply(_) => "none",
-        Said::Nothing => "nothing",
-    }
-    .to_string()
 }
 
 fn named(command: Command, after: &Lent) -> Option<Named> {

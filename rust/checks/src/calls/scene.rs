@@ -10,20 +10,20 @@ use model::{Cache, Call, Drive, Erase, Lent, Mail, PARTITIONS, PLACES};
 const SEED: u64 = 0x5EED_0C11_0016_0128;
 const TAGS: usize = 24;
 
-/// How often each call is made, in parts of the sum: fields, states, place; READ,
+/// How often each call is made, in parts of the sum: fields, states, why, place; READ,
 /// WRITE, ZEROIZE; erasure, cut erasure, restart; then the mailbox commands in the
 /// order of the document's table, CLKC, KLOD, KUNL, FERS, FSTA.
-type Mood = [usize; 14];
+type Mood = [usize; 15];
 
 const MOODS: [Mood; 4] = [
     // Many loads, which fill the cache.
-    [4, 4, 2, 4, 8, 6, 1, 1, 1, 1, 40, 12, 1, 5],
+    [4, 4, 3, 2, 4, 8, 6, 1, 1, 1, 1, 40, 12, 1, 5],
     // Many burns of single words.
-    [4, 4, 2, 12, 40, 16, 1, 1, 1, 4, 4, 4, 1, 8],
+    [4, 4, 3, 2, 12, 40, 16, 1, 1, 1, 4, 4, 4, 1, 8],
     // Some of each.
-    [4, 4, 2, 10, 20, 12, 2, 2, 2, 2, 20, 12, 2, 8],
+    [4, 4, 3, 2, 10, 20, 12, 2, 2, 2, 2, 20, 12, 2, 8],
     // Many erasures, with loads between them.
-    [4, 4, 2, 4, 8, 6, 10, 30, 6, 1, 10, 4, 20, 5],
+    [4, 4, 3, 2, 4, 8, 6, 10, 30, 6, 1, 10, 4, 20, 5],
 ];
 
 /// A sequence of calls, made again by its number alone.
@@ -87,19 +87,20 @@ impl Scene {
                 Call::Partition(mostly_below(random, there))
             }
             1 => Call::States,
-            2 => Call::Place(mostly_below(random, PLACES)),
-            3 => Call::Direct(Read { cell: commands::cell(random, drive) }),
-            4 => Call::Direct(commands::write(random, drive)),
-            5 => Call::Direct(Zeroize { cell: commands::cell(random, drive) }),
-            chosen @ (6 | 7) => {
+            2 => Call::Why,
+            3 => Call::Place(mostly_below(random, PLACES)),
+            4 => Call::Direct(Read { cell: commands::cell(random, drive) }),
+            5 => Call::Direct(commands::write(random, drive)),
+            6 => Call::Direct(Zeroize { cell: commands::cell(random, drive) }),
+            chosen @ (7 | 8) => {
                 let partition = commands::partition(random, drive);
-                let cut = (chosen == 7).then(|| commands::cut_of(random, drive, partition));
+                let cut = (chosen == 8).then(|| commands::cut_of(random, drive, partition));
                 Call::Erase(Erase { partition, cut })
             }
-            8 => Call::Restart,
+            9 => Call::Restart,
             mailbox => {
                 let partition = commands::partition(random, drive);
-                let command = Mail::ALL[mailbox - 9];
+                let command = Mail::ALL[mailbox - 10];
                 Call::Mailbox(requests::generated(random, command, &self.tags, partition))
             }
         }

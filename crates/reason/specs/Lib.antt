@@ -1,0 +1,4 @@
+pub mod Reason
+pub mod Laws
+pub mod Exactly
+pub mod Vectors

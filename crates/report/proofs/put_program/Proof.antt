@@ -1,0 +1,50 @@
+-- `report::put_program` meets its contract: one name for each program. Assumes nothing.
+use native.Mathlib.Omega.{arith}
+use borrow.Author.Needs.{needs}
+use Rattle.report.proofs.put_program.Statement.{statement}
+use Rattle.report.proofs.put_program.Tie as tie
+
+enum-told : tie.Need-enum-told
+enum-told c = search needs
+
+slice-aggregate-put : tie.Need-slice-aggregate-put
+slice-aggregate-put c = search needs
+
+put-requires : tie.Need-put-requires
+put-requires c κs = search needs
+
+enum-told-2 : tie.Need-enum-told-2
+enum-told-2 c = search needs
+
+slice-aggregate-put-2 : tie.Need-slice-aggregate-put-2
+slice-aggregate-put-2 c = search needs
+
+put-requires-2 : tie.Need-put-requires-2
+put-requires-2 c κs = search needs
+
+same-length : tie.Need-same-length
+same-length c = search needs
+
+returns : tie.Need-returns
+returns c = rw (c .before .before .before .before .before .enum-told .given .1) (c .before .before .put .ensures, omega arith)
+
+same-length-2 : tie.Need-same-length-2
+same-length-2 c = search needs
+
+returns-2 : tie.Need-returns-2
+returns-2 c = rw (c .before .before .before .before .before .enum-told2 .given .1) (c .before .before .put2 .ensures, omega arith)
+
+pub put-program-spec : {M : Type 1} → statement M
+put-program-spec =
+    tie.close
+    (tie.spec
+    enum-told
+    slice-aggregate-put
+    put-requires
+    enum-told-2
+    slice-aggregate-put-2
+    put-requires-2
+    same-length
+    returns
+    same-length-2
+    returns-2)
