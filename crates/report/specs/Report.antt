@@ -5,6 +5,7 @@ use mathlib.Core.Path.{_≡_}
 use mathlib.Core.List.{List, _++_}
 use lib.ListN.{length, drop}
 use Rattle.text.specs.Text.{text}
+use Rattle.wording.specs.Wording.{whyLine}
 use Rattle.report.specs.declared.Program.{Program}
 use Rattle.report.specs.declared.Program.the-variants.{Status, Why}
 use Rattle.report.specs.declared.Reading.{Reading}
@@ -12,7 +13,6 @@ use Rattle.report.specs.declared.Reading.the-variants.{Drive, Refused}
 use Rattle.report.specs.declared.Failure.{Failure}
 use Rattle.report.specs.declared.Failure.the-variants.{Input, Output}
 use Rattle.report.specs.Status.{imageOf, inputCells, readingOf, tableOf, refusedLine}
-use Rattle.report.specs.Why.{whyLine}
 
 -- a program's name
 abbrev pub programName : Program → List ℕ

@@ -13,8 +13,8 @@ use Rattle.partition.specs.Partition.{shortAt, counted, zeroCell, stateOf}
 use Rattle.drive.specs.Drive.{surveyAt, slotAt, openSlot, activeSlot}
 use Rattle.reason.specs.Reason.{notSlot, reasonIn}
 use Rattle.text.specs.Text.{text, decimal}
+use Rattle.wording.specs.Wording.{pairWords, whyLine}
 use Rattle.report.specs.Status.{numberAt, readingOf, lineOf, hekLine, lineAt, tableOf}
-use Rattle.report.specs.Why.{pairWords, whyLine}
 use Rattle.report.specs.Report.{reportOf}
 use Rattle.report.specs.declared.Program.the-variants.{Status, Why}
 

@@ -1,11 +1,9 @@
 // What the desk's programs answer: the bytes that they read go in, the bytes that they print come out
 // in a lent buffer, and so do the lines that they say on standard error. Reading, judging and every
-// printed byte are decided here; the programs only move bytes. The definitions are in `specs/Status`
-// and `specs/Why`, and of both programs together in `specs/Report`; the laws in `specs/Laws`,
-// `specs/Words` and `specs/Longer`. It rests on `drive`, `reason`, `reader`, `map`, `partition` and
-// `text`, and below them on `cache`, `context`, `endian`, `fuse` and `laws`.
-mod why;
-
+// printed byte are decided here; the programs only move bytes. The definitions are in `specs/Status`,
+// of both programs together in `specs/Report`; the laws in `specs/Laws` and `specs/Longer`. It rests on
+// `drive`, `reader`, `map`, `partition`, `text` and `wording`, and below them on `cache`, `context`,
+// `endian`, `fuse`, `laws` and `reason`.
 use drive::ActiveSlot;
 use partition::State;
 use partition::Survey;
@@ -155,7 +153,7 @@ fn put_output(out: &mut [u8], program: Program, image: &[u8], cells: &[u32]) -> 
 {
     match program {
         Program::Status => put_table(out, image, cells),
-        Program::Why => why::put_why(out, image, cells),
+        Program::Why => wording::put_why(out, image, cells),
     }
 }
 

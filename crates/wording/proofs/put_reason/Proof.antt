@@ -1,4 +1,4 @@
--- `report::why::put_reason` meets its contract: a torn slot has a pair, another reason none. Assumes nothing.
+-- `wording::put_reason` meets its contract: a torn slot has a pair, another reason none. Assumes nothing.
 use Prim.Native.Nat.{ℕ}
 use mathlib.Core.Path.{_≡_, refl, ap, subst}
 use mathlib.Core.List.{[], _∷_}
@@ -10,9 +10,9 @@ use Rattle.laws.specs.Put.{then, nothing}
 use Rattle.reason.specs.declared.Reason.{Reason}
 use Rattle.reason.specs.declared.Reason.the-variants.{Available, NoSlot, AllErased, Blank, Torn, Refused}
 use Rattle.reason.proofs.Reason.{the-type}
-use Rattle.report.specs.Why.{pairWords, pairPart, SmallReason}
-use Rattle.report.proofs.why.put_reason.Statement.{statement}
-use Rattle.report.proofs.why.put_reason.Tie as tie
+use Rattle.wording.specs.Wording.{pairWords, pairPart, SmallReason}
+use Rattle.wording.proofs.put_reason.Statement.{statement}
+use Rattle.wording.proofs.put_reason.Tie as tie
 
 put-words-requires : tie.Need-put-words-requires
 put-words-requires c κs = search needs

@@ -1,13 +1,13 @@
--- `report::why::put_why` meets its contract: the line of the reason that was found. Assumes nothing.
+-- `wording::put_why` meets its contract: the line of the reason that was found. Assumes nothing.
 use native.Mathlib.Omega.{arith}
 use mathlib.Core.Path.{ap}
 use borrow.Author.Needs.{needs}
 use Rattle.laws.specs.Put.{retext}
 use Rattle.map.specs.declared.Header.{Header}
 use Rattle.map.specs.Laws.{map-header}
-use Rattle.report.specs.Words.{small-reason, why-is}
-use Rattle.report.proofs.why.put_why.Statement.{statement}
-use Rattle.report.proofs.why.put_why.Tie as tie
+use Rattle.wording.specs.Laws.{small-reason, why-is}
+use Rattle.wording.proofs.put_why.Statement.{statement}
+use Rattle.wording.proofs.put_why.Tie as tie
 
 read-header-requires : tie.Need-read-header-requires
 read-header-requires c κs = search needs

@@ -1,12 +1,13 @@
-// Why a drive offers no HEK, as a line for the desk (request P1): the reason in words, and of a torn
-// slot its pair. The words are in `specs/Why`. It rests on `reason`, `map` and `text`.
+// A reason in words: the line that tells the desk why a drive offers no HEK (request P1), and of a torn
+// slot its pair. The words are in `specs/Wording`, the laws in `specs/Laws`. It rests on `reason`, `map`
+// and `text`, and below them on `cache`, `context`, `drive`, `endian`, `fuse`, `laws` and `partition`.
 use reason::Reason;
 ghost use mathlib.Core.List.{_++_};
 ghost use Prim.Native.Nat.{_+_, _≤_, _<_};
 ghost use lib.ListN.{length};
 ghost use Rattle.laws.specs.Put.{Put};
 ghost use Rattle.drive.specs.Drive.{Whole};
-ghost use Rattle.report.specs.Why.{slotWords, reasonWords, pairWords, reasonLine, whyLine, SmallReason};
+ghost use Rattle.wording.specs.Wording.{slotWords, reasonWords, pairWords, reasonLine, whyLine, SmallReason};
 
 // Writes what state the active slot, in this partition, is in.
 fn put_slot(out: &mut [u8], partition: u32, state: &[u8]) -> usize

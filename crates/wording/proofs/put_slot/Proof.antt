@@ -1,9 +1,9 @@
--- `report::why::put_slot` meets its contract: three pieces are one. Assumes nothing.
+-- `wording::put_slot` meets its contract: three pieces are one. Assumes nothing.
 use native.Mathlib.Omega.{arith}
 use borrow.Author.Needs.{needs}
 use Rattle.laws.specs.Put.{then}
-use Rattle.report.proofs.why.put_slot.Statement.{statement}
-use Rattle.report.proofs.why.put_slot.Tie as tie
+use Rattle.wording.proofs.put_slot.Statement.{statement}
+use Rattle.wording.proofs.put_slot.Tie as tie
 
 slice-aggregate-put-numbered : tie.Need-slice-aggregate-put-numbered
 slice-aggregate-put-numbered c = search needs

@@ -1,10 +1,10 @@
--- `report::why::put_pair` meets its contract: four pieces are one. Assumes nothing.
+-- `wording::put_pair` meets its contract: four pieces are one. Assumes nothing.
 use native.Mathlib.Omega.{arith}
 use borrow.Author.Needs.{needs}
 use Rattle.laws.specs.Put.{then}
-use Rattle.report.specs.Why.{pairWords}
-use Rattle.report.proofs.why.put_pair.Statement.{statement}
-use Rattle.report.proofs.why.put_pair.Tie as tie
+use Rattle.wording.specs.Wording.{pairWords}
+use Rattle.wording.proofs.put_pair.Statement.{statement}
+use Rattle.wording.proofs.put_pair.Tie as tie
 
 slice-aggregate-put-numbered : tie.Need-slice-aggregate-put-numbered
 slice-aggregate-put-numbered c = search needs

@@ -1,10 +1,10 @@
--- `report::why::put_words` meets its contract: one text for each reason. Assumes nothing.
+-- `wording::put_words` meets its contract: one text for each reason. Assumes nothing.
 use mathlib.Core.Path.{subst}
 use native.Mathlib.Omega.{arith}
 use borrow.Author.Needs.{needs}
-use Rattle.report.specs.Why.{SmallReason}
-use Rattle.report.proofs.why.put_words.Statement.{statement}
-use Rattle.report.proofs.why.put_words.Tie as tie
+use Rattle.wording.specs.Wording.{SmallReason}
+use Rattle.wording.proofs.put_words.Statement.{statement}
+use Rattle.wording.proofs.put_words.Tie as tie
 
 enum-told : tie.Need-enum-told
 enum-told c = search needs

@@ -16,7 +16,7 @@ use Rattle.reason.specs.declared.Reason.{Reason}
 use Rattle.reason.specs.declared.Reason.the-variants.{NoSlot, AllErased}
 use Rattle.reason.specs.Reason.{noSlot, reasonBy, reasonIn}
 use Rattle.reason.specs.Laws.{fits}
-use Rattle.report.specs.Why.{reasonLine, whyLine, SmallReason}
+use Rattle.wording.specs.Wording.{reasonLine, whyLine, SmallReason}
 
 module _ (image cells : List ℕ) where
   small-by : mapGood image ≡ true → (found : ActiveSlot) → Means image cells found → SmallReason (reasonBy image cells found)
