@@ -15,6 +15,7 @@ use Rattle.partition.specs.declared.Survey.{Survey}
 use Rattle.drive.specs.declared.ActiveSlot.{ActiveSlot}
 use Rattle.drive.specs.Drive.{surveyAt, activeSlot, slotNumber, available}
 use Rattle.text.specs.Text.{text, decimal}
+use Rattle.wording.specs.Wording.{refusedWords}
 use Rattle.report.specs.declared.Reading.{Reading}
 use Rattle.report.specs.declared.Reading.the-variants.{Drive, Refused}
 
@@ -83,9 +84,9 @@ tableOf image cells =
     ++ joinBelow (lineAt image cells) (headerOf image .partitions)
     ++ hekLine (activeSlot image cells)
 
--- "A refusal prints only `refused`, a space and the number"
+-- "A refusal prints only `refused`, a space and the number", "Each line ends with a line feed"
 abbrev pub refusedLine : (number : ℕ) → List ℕ
-refusedLine number = text "refused " ++ decimal number ++ text "\n"
+refusedLine number = refusedWords number ++ text "\n"
 
 -- ---- numbers of at most four digits, which is what `text::put_decimal` can print: those of a line, and that of the last line
 

@@ -84,8 +84,7 @@ fn put_refused(out: &mut [u8], number: u8) -> usize
     requires { ⌜ 13 ≤ length (now out) ⌝ }
     ensures { λ r. ⌜ Put 0 (refusedLine number) (now (out .entry)) (now (out .exit)) r ⌝ }
 {
-    let at = text::put(out, 0, b"refused ");
-    let at = text::put_decimal(out, at, number as usize);
+    let at = wording::put_refused(out, number as u32);
     text::put(out, at, b"\n")
 }
 

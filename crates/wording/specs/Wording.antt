@@ -11,6 +11,10 @@ use Rattle.text.specs.Text.{text, decimal}
 abbrev pub slotWords : (i : ℕ) → List ℕ
 slotWords i = text "hek none: the active slot, partition " ++ decimal i ++ text ", is "
 
+-- document 01: "A refusal prints only `refused`, a space and the number"
+abbrev pub refusedWords : (number : ℕ) → List ℕ
+refusedWords number = text "refused " ++ decimal number
+
 -- each reason in words; a drive that was judged is not refused, so that the last is never printed of one
 abbrev pub reasonWords : Reason → List ℕ
 reasonWords Available = text "hek available"
@@ -18,7 +22,7 @@ reasonWords NoSlot = text "hek none: the map has no slot"
 reasonWords AllErased = text "hek none: every slot is erased"
 reasonWords (Blank i) = slotWords i ++ text "blank: it holds no seed"
 reasonWords (Torn i cell ones) = slotWords i ++ text "torn"
-reasonWords (Refused number) = text "refused " ++ decimal number
+reasonWords (Refused number) = refusedWords number
 
 -- "torn also with its first short pair and that pair's ones", and the bound that they are below
 unfoldable pub pairWords : (bound cell ones : ℕ) → List ℕ

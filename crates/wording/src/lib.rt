@@ -1,13 +1,14 @@
-// A reason in words: the line that tells the desk why a drive offers no HEK (request P1), and of a torn
-// slot its pair. The words are in `specs/Wording`, the laws in `specs/Laws`. It rests on `reason`, `map`
-// and `text`, and below them on `cache`, `context`, `drive`, `endian`, `fuse`, `laws` and `partition`.
+// A reason in words: the line that tells the desk why a drive offers no HEK (request P1), of a torn slot
+// with its pair; and a refusal, which every program prints so. The words are in `specs/Wording`, the
+// laws in `specs/Laws`. It rests on `reason`, `map` and `text`, and below them on `cache`, `context`,
+// `drive`, `endian`, `fuse`, `laws` and `partition`.
 use reason::Reason;
 ghost use mathlib.Core.List.{_++_};
 ghost use Prim.Native.Nat.{_+_, _≤_, _<_};
 ghost use lib.ListN.{length};
 ghost use Rattle.laws.specs.Put.{Put};
 ghost use Rattle.drive.specs.Drive.{Whole};
-ghost use Rattle.wording.specs.Wording.{slotWords, reasonWords, pairWords, reasonLine, whyLine, SmallReason};
+ghost use Rattle.wording.specs.Wording.{slotWords, refusedWords, reasonWords, pairWords, reasonLine, whyLine, SmallReason};
 
 // Writes what state the active slot, in this partition, is in.
 fn put_slot(out: &mut [u8], partition: u32, state: &[u8]) -> usize
@@ -22,6 +23,14 @@ fn put_slot(out: &mut [u8], partition: u32, state: &[u8]) -> usize
     );
     let at = text::put(out, at, b", is ");
     text::put(out, at, state)
+}
+
+// Writes a refusal in words.
+pub fn put_refused(out: &mut [u8], number: u32) -> usize
+    requires { ⌜ (12 ≤ length (now out)) × (number < 10000) ⌝ }
+    ensures { λ r. ⌜ Put 0 (refusedWords number) (now (out .entry)) (now (out .exit)) r × (r ≤ 12) ⌝ }
+{
+    text::put_numbered(out, 0, b"refused ", number as usize)
 }
 
 // Writes a reason in words. A drive that was judged is not refused: that arm makes the match whole.
@@ -39,7 +48,7 @@ fn put_words(out: &mut [u8], reason: Reason) -> usize
             cell: _,
             ones: _,
         } => put_slot(out, partition, b"torn"),
-        Reason::Refused(number) => text::put_numbered(out, 0, b"refused ", number as usize),
+        Reason::Refused(number) => put_refused(out, number),
     }
 }
 

@@ -58,15 +58,9 @@ put-slot-requires-2 c κs =
 enum-known-reason-3 : tie.Need-enum-known-reason-3
 enum-known-reason-3 c = search needs
 
-slice-aggregate-put-numbered : tie.Need-slice-aggregate-put-numbered
-slice-aggregate-put-numbered c = search needs
-
-cast-put-numbered : tie.Need-cast-put-numbered
-cast-put-numbered c = search needs
-
-put-numbered-requires : tie.Need-put-numbered-requires
-put-numbered-requires c κs =
-    let told = c .before .before .before in
+put-refused-requires : tie.Need-put-refused-requires
+put-refused-requires c κs =
+    let told = c .before .before in
     (search needs, subst SmallReason (told .reason3 .given .1) (told .before .before .before .pre .1))
 
 same-length : tie.Need-same-length
@@ -109,7 +103,7 @@ same-length-6 c = search needs
 returns-6 : tie.Need-returns-6
 returns-6 c =
     let wrote = c .before .before in
-    rw (wrote .before .before .before .before .reason3 .given .1) (wrote .put-numbered .ensures .0, omega (arith, wrote .put-numbered .ensures .1))
+    rw (wrote .before .before .before .reason3 .given .1) (wrote .put-refused .ensures .0, omega (arith, wrote .put-refused .ensures .1))
 
 pub put-words-spec : {M : Type 1} → statement M
 put-words-spec =
@@ -131,9 +125,7 @@ put-words-spec =
     slice-aggregate-put-slot-2
     put-slot-requires-2
     enum-known-reason-3
-    slice-aggregate-put-numbered
-    cast-put-numbered
-    put-numbered-requires
+    put-refused-requires
     same-length
     returns
     same-length-2
