@@ -1,16 +1,16 @@
 /*
- * The proved key block of a drive controller: the map of its fuses, the states
- * of its partitions, why it offers no key, direct commands on its fuses, the
- * erasure of a partition, the key cache of 16 places, and the mailbox. Link
- * libsciambrunola.a: it is built for x86-64 Linux (System V calling convention),
- * position-independent, with no heap, no C library and no undefined symbol. Call
- * it from ordinary threads and not from an interrupt handler: it uses the red
- * zone below the stack pointer and the SSE registers. It has no unwind tables, so
- * no exception and no cancellation may pass through a call of it, and a backtrace
- * ends there.
+ * The proved key block of a drive controller: the map of its fuses, read and
+ * written, the states of its partitions, why it offers no key, direct commands on
+ * its fuses, the erasure of a partition, the key cache of 16 places, and the
+ * mailbox. Link libsciambrunola.a: it is built for x86-64 Linux (System V calling
+ * convention), position-independent, with no heap, no C library and no undefined
+ * symbol. Call it from ordinary threads and not from an interrupt handler: it
+ * uses the red zone below the stack pointer and the SSE registers. It has no
+ * unwind tables, so no exception and no cancellation may pass through a call of
+ * it, and a backtrace ends there.
  *
- * Any bytes, cells, marks, contexts, requests and lengths get an answer, and
- * every call ends. What the caller must see to, and all of it:
+ * Any bytes, texts, cells, marks, contexts, requests and lengths get an answer,
+ * and every call ends. What the caller must see to, and all of it:
  *   - every pointer is valid for its count (and not null, even for a count of
  *     0) and aligned for its type; a count is in elements of that type;
  *   - context points to one sci_context; states and short_pairs are arrays of
@@ -18,15 +18,16 @@
  *   - a buffer that a call may write, that is one whose pointer is not const
  *     (cells, but for sci_states and sci_why; context, but for sci_cache_place;
  *     for sci_mailbox also response and block; for sci_states states and
- *     short_pairs), overlaps no other buffer of the call. Buffers that are const
- *     may overlap.
+ *     short_pairs; for sci_write_map image), overlaps no other buffer of the call.
+ *     Buffers that are const may overlap.
  * The archive has no memory of its own: all that a call knows is what it is lent,
  * and all that is kept between calls is the caller's.
  *
  * What is lent to every function, save that sci_partition gets the image only,
- * sci_restart and sci_cache_place the context only, and sci_states and sci_why no
- * context:
- *   image, image_bytes  the map of the fuses, as below; only read
+ * sci_write_map a text and a buffer for the image, sci_restart and sci_cache_place
+ * the context only, and sci_states and sci_why no context:
+ *   image, image_bytes  the map of the fuses, as below; only read, but for
+ *                       sci_write_map, which writes it
  *   cells, cell_count   the fuse cells, 32 fuses each; written by sci_write,
  *                       sci_zeroize, sci_erase, sci_erase_cut and, for FERS
  *                       alone, sci_mailbox. Only read by sci_read, though the
@@ -77,9 +78,9 @@
  * available when there is an active slot and it is programmed.
  *
  * Refusal numbers, each with the rest of its name behind SCI_REFUSAL_. They are
- * checked in ascending order and the lowest that applies is answered. A refused
- * call leaves everything that is lent as it was; 15 alone leaves the fuses named
- * there.
+ * checked in ascending order and the lowest that applies is answered; sci_write_map
+ * alone checks 16 first, then 1. A refused call leaves everything that is lent as
+ * it was; 15 alone leaves the fuses named there.
  *       SCI_REFUSAL_
  *    1  MAP              the map breaks a rule above
  *    2  LENGTHS          cells or marks are not as many as the map says; for the
@@ -101,6 +102,8 @@
  *                        fewer ones than the map's bound. Every fuse of the
  *                        indicator that is not marked stuck is set, and all else
  *                        is as it was
+ *   16  TEXT             the map's text has not its form, or the buffer for the
+ *                        image is too short
  */
 #ifndef SCIAMBRUNOLA_H
 #define SCIAMBRUNOLA_H
@@ -114,7 +117,7 @@ extern "C" {
 
 /* The version of this header and of the archive that goes with it: it grows by one
  * whenever something changes for a caller. docs/CHANGES.md says what. */
-#define SCI_VERSION 6
+#define SCI_VERSION 7
 
 /* Of a function whose answer has to be looked at: a warning where it is not, if the
  * compiler has one. An erasure that ended is not yet an erased partition. */
@@ -134,6 +137,8 @@ extern "C" {
 #define SCI_LEAST_RESPONSE 20
 /* The most partitions that a map has. */
 #define SCI_PARTITIONS 16
+/* The bytes of the longest image that is written: 8, and 8 for each of SCI_PARTITIONS. */
+#define SCI_LONGEST_IMAGE 136
 
 /* sci_fields.kind, and the kind in the map */
 #define SCI_KIND_HARDWARE 0
@@ -161,6 +166,7 @@ extern "C" {
 #define SCI_REFUSAL_NO_PLACE 13
 #define SCI_REFUSAL_TAG_NOT_HELD 14
 #define SCI_REFUSAL_INDICATOR_SHORT 15
+#define SCI_REFUSAL_TEXT 16
 
 /* states[i] of sci_states */
 #define SCI_STATE_ERASED 0
@@ -230,6 +236,12 @@ typedef struct {
     uint32_t flags;      /* the sum of SCI_FLAG_ZEROIZABLE, _SECRET and _SLOT */
 } sci_fields;
 
+/* What sci_write_map answers beside the image. */
+typedef struct {
+    uint32_t refusal; /* the refusal's number, 0 where an image was written */
+    uint32_t bytes;   /* the image's length; 0 on refusal */
+} sci_written;
+
 /* What sci_states answers beside its two arrays. */
 typedef struct {
     uint32_t refusal;    /* the refusal's number, else 0 */
@@ -292,6 +304,33 @@ typedef struct {
  */
 SCI_ANSWER
 sci_fields sci_partition(const uint8_t *image, size_t image_bytes, uint32_t partition);
+
+/*
+ * Writes the map that a text says to the front of the buffer image, and answers how
+ * many bytes it has: 8, and 8 for each partition, so that a buffer of
+ * SCI_LONGEST_IMAGE bytes is enough for any map. The entries begin at byte 8, E = 8.
+ * The bytes of the buffer past the image keep their values, and nothing else changes.
+ *
+ * The text is that of the chip planners. A first line has C and B, then each
+ * partition has a line: first cell, cells, kind and flags. All are decimal numbers
+ * without leading zeros, 0 to 65,535, with a single space between two of them; each
+ * line ends with a line feed, the last one too, and there is nothing else. No zero
+ * byte ends the text: its length does. As strings in C:
+ *   "12 60\n0 6 0 7\n6 6 1 0\n"  12 cells, bound 60; a slot in cells 0 to 5, software
+ *                               in cells 6 to 11: 24 bytes
+ *   "64 33\n0 64 2 0\n"          64 cells, bound 33; life cycle in all: 16 bytes
+ * An image is written exactly when the text has this form, the buffer has the room, and
+ * a map with these fields keeps every rule; sci_partition then reads these fields from
+ * it. A kind or flags over 255 have the form, but no map has them (1); likewise a text
+ * with no partition or with more than SCI_PARTITIONS, if the buffer has the room that
+ * is asked for.
+ * Refused, in this order: 16 if the text has not this form, or image_bytes is less than
+ * 8 and 8 more for each partition's line; 1 if the map would break a rule. Nothing is
+ * written then.
+ */
+SCI_ANSWER
+sci_written sci_write_map(const uint8_t *text, size_t text_bytes,
+                          uint8_t *image, size_t image_bytes);
 
 /*
  * The state and the short pairs of every partition: those of partition i are

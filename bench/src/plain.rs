@@ -1,5 +1,5 @@
-//! The key block once more, as an engineer writes it in safe Rust from document
-//! 01 for firmware in which speed does not matter: no allocation, and a test
+//! The key block once more, as an engineer writes it in safe Rust from the
+//! documents for firmware in which speed does not matter: no allocation, and a test
 //! that fails ends the call. It shares no code with the model but the names of states,
 //! reasons and orders, and none with the library; it is what the library's times are divided by.
 //!
@@ -9,11 +9,13 @@ mod erasure;
 mod fuses;
 mod mailbox;
 mod map;
+mod text;
 
 pub use erasure::{erase, Erased};
 pub use fuses::{states, why};
 pub use mailbox::{mailbox, Buffers};
 pub use map::{Entry, Header};
+pub use text::write_map;
 
 use map::Map;
 

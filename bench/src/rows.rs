@@ -1,11 +1,12 @@
 //! What is measured: calls, and what they find.
 
 use checks::random::Random;
+use checks::{small, texts};
 use model::{
     entry, Call, Drive, Erase, Image, Lent, Mail, Request, Values, HARDWARE, SLOT_FLAGS, SOFTWARE,
     ZEROIZABLE,
 };
-use sciambrunola::{BLOCK_BYTES, LEAST_RESPONSE, PARTITIONS};
+use sciambrunola::{BLOCK_BYTES, LEAST_RESPONSE, LONGEST_IMAGE, PARTITIONS};
 
 const CELLS: usize = 2048;
 /// The cells of a partition of the largest map.
@@ -49,6 +50,8 @@ pub fn all() -> Vec<Row> {
     rows.extend(Mail::ALL.map(|command| mailbox(command, "small drive", Drive::small())));
     rows.extend(Mail::ALL.map(|command| mailbox(command, "largest map", last_slot_active())));
     rows.push(row("why, largest map", last_slot_torn(), Call::Why));
+    rows.push(write_map("small drive", small::MAP_TEXT.into()));
+    rows.push(write_map("largest map", texts::spelled(&slots())));
     rows
 }
 
@@ -84,6 +87,13 @@ fn mailbox(command: Mail, drive_name: &str, drive: Drive) -> Row {
     row
 }
 
+/// The map of a text, written where there is room for any.
+fn write_map(name: &str, text: Vec<u8>) -> Row {
+    let mut row = row(&format!("write map, {name}"), Drive::default(), Call::WriteMap(text));
+    row.start.output = vec![0xA5; LONGEST_IMAGE];
+    row
+}
+
 /// A drive with one partition in all 2,048 cells. Of some pairs four fuses are
 /// stuck, so that they are not short once they are burned.
 fn one_partition(kind: u8, flags: u8) -> Drive {
@@ -94,13 +104,17 @@ fn one_partition(kind: u8, flags: u8) -> Drive {
 }
 
 /// The largest map, 16 slots in 2,048 cells, with an image of 256 bytes.
-fn largest(fill: impl Fn(usize, &mut [u32])) -> Drive {
+fn slots() -> Image {
     let slot = |i: usize| entry((i * SHARE) as u16, SHARE as u16, HARDWARE, SLOT_FLAGS);
     let entries = (0..PARTITIONS).map(slot).collect();
-    let image = Image { cells: CELLS as u16, bound: 60, entries_at: 128, entries };
+    Image { cells: CELLS as u16, bound: 60, entries_at: 128, entries }
+}
+
+/// A drive with that map, and each slot filled by its number.
+fn largest(fill: impl Fn(usize, &mut [u32])) -> Drive {
     let mut cells = vec![0; CELLS];
     cells.chunks_exact_mut(SHARE).enumerate().for_each(|(i, part)| fill(i, part));
-    Drive { image: image.bytes(), cells, marks: vec![0; CELLS] }
+    Drive { image: slots().bytes(), cells, marks: vec![0; CELLS] }
 }
 
 /// The slots are erased, torn, blank and programmed in turn.

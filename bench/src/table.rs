@@ -18,13 +18,14 @@ of the best times, `median` is the median of library / plain over all runs. Ever
 release and called through the same code, the library through its safe Rust functions. `plain` is \
 safe Rust as one writes it without care for speed, with no allocation and early exits (`bench/src/plain`); \
 `model` is the tests' oracle, written to be read. Before it is timed, each call is made on all three, \
-and answers, cells, cache, block, response and states are equal. Each call is repeated on what it \
+and answers, cells, cache, block, response, states and written map are equal. Each call is repeated on what it \
 left; KLOD and KUNL find 8 keys held, and the time to put the cache back is part of theirs on every side. \
 In the largest map (16 slots, 2,048 cells, 256 bytes) the active slot is the last; `why` finds it torn, \
 with the digest alone short. `map check` is the call `sci_partition` of that map's last partition, \
 for which the whole map is judged. `none short` is an erasure after which no pair is short; \
 `digest short` is one after which the digest alone is, the last pair before the indicator, so that \
-the lowest short pair is looked for through all data.
+the lowest short pair is looked for through all data. `write map` is `sci_write_map` of the text of \
+the small drive's map, and of that of the largest one, which becomes 136 bytes.
 ";
 
 /// The comments in README.md that the table stands between.

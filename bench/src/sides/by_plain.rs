@@ -10,12 +10,16 @@ pub struct Plain;
 impl KeyBlock for Plain {
     #[inline]
     fn answer(&mut self, lent: &mut Lent, call: &Call) -> Said {
-        let Lent { drive, cache, response, block, .. } = lent;
+        let Lent { drive, cache, response, block, output, .. } = lent;
         let mut drive = Drive { image: &drive.image, cells: &mut drive.cells, marks: &drive.marks };
         match call {
             Call::Partition(number) => Said::Fields(fields(drive.image, *number)),
             Call::States => Said::Listing(list(lent)),
             Call::Why => Said::Reason(plain::why(drive.image, drive.cells, drive.marks)),
+            Call::WriteMap(text) => Said::Written(match plain::write_map(text, output) {
+                Ok(bytes) => [0, bytes as u32],
+                Err(number) => [number, 0],
+            }),
             Call::Erase(Erase { partition, cut: None }) => {
                 Said::Erasure(match plain::erase(&mut drive, &cache.places, *partition) {
                     Ok(Erased { short_pairs, first_short, burns }) => {

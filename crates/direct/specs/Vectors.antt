@@ -10,7 +10,8 @@ use Rattle.laws.specs.Below.{allBelow, firstFrom}
 use Rattle.endian.specs.Endian.{u16At}
 use Rattle.context.specs.State.{State, state, Outcome, outcome}
 use Rattle.map.specs.Map.{headerGood, fillerGood, entryGood, placeGood, mapGood}
-use Rattle.map.specs.Vectors.{image, entry, two}
+use Rattle.map.specs.Image.{image, entry}
+use Rattle.map.specs.Vectors.{two}
 use Rattle.fuse.specs.Fuse.{burnCell, burnWord}
 use Rattle.partition.specs.Partition.{shortAt, counted}
 use Rattle.word.specs.Word.{wordIn, holdsAt, wordAt}

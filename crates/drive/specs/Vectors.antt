@@ -9,7 +9,8 @@ use Rattle.laws.specs.Tests.{every}
 use Rattle.laws.specs.Below.{allBelow, countBelow, firstFrom}
 use Rattle.endian.specs.Endian.{u16At}
 use Rattle.map.specs.Map.{headerGood, fillerGood, entryGood, placeGood, mapGood}
-use Rattle.map.specs.Vectors.{image, entry, one}
+use Rattle.map.specs.Image.{image, entry}
+use Rattle.map.specs.Vectors.{one}
 use Rattle.partition.specs.Partition.{shortAt, counted, zeroCell, stateOf}
 use Rattle.drive.specs.Drive.{wholeArrays, checkOf, surveyAt, slotAt, openSlot, activeSlot, available}
 use Rattle.drive.specs.declared.Check.the-variants.{Refused}

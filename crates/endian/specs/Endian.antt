@@ -29,7 +29,7 @@ unfolding u32At u16At
 reads-back v rest = omega arith
 
 -- a number is read from its four bytes
-u16-drop : (s : List ℕ) (k j : ℕ) → u16At (drop k s) j ≡ u16At s (k + j)
+pub u16-drop : (s : List ℕ) (k j : ℕ) → u16At (drop k s) j ≡ u16At s (k + j)
 unfolding u16At
 u16-drop s k j =
     let e : k + (j + 1) ≡ k + j + 1 = omega arith in

@@ -9,7 +9,7 @@ use Rattle.laws.specs.Tests.{every}
 use Rattle.laws.specs.Below.{allBelow, countBelow, firstFrom}
 use Rattle.endian.specs.Endian.{u16At}
 use Rattle.map.specs.Map.{headerGood, fillerGood, entryGood, placeGood, mapGood}
-use Rattle.map.specs.Vectors.{image, entry}
+use Rattle.map.specs.Image.{image, entry}
 use Rattle.fuse.specs.Fuse.{burnCell, burnWord}
 use Rattle.partition.specs.Partition.{shortAt, counted, lowestShort}
 use Rattle.burns.specs.Run.{wordsFrom, order, goesOn, stopsAfter, burnsOf}

@@ -10,7 +10,8 @@ use Rattle.laws.specs.Tests.{every}
 use Rattle.laws.specs.Below.{allBelow, countBelow, firstFrom}
 use Rattle.endian.specs.Endian.{u16At, u32At, bytes4}
 use Rattle.map.specs.Map.{headerGood, fillerGood, entryGood, placeGood, mapGood}
-use Rattle.map.specs.Vectors.{image, two}
+use Rattle.map.specs.Image.{image}
+use Rattle.map.specs.Vectors.{two}
 use Rattle.fuse.specs.Fuse.{pairOf, onesOf, burnCell, burnWord}
 use Rattle.partition.specs.declared.State.{State as PartitionState}
 use Rattle.partition.specs.declared.State.the-variants.{Erased, Torn, Programmed}

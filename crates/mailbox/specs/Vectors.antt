@@ -10,7 +10,8 @@ use Rattle.laws.specs.Below.{allBelow, countBelow, firstFrom}
 use Rattle.endian.specs.Endian.{u16At, u32At, bytes4}
 use Rattle.context.specs.State.{state, Outcome, outcome}
 use Rattle.map.specs.Map.{headerGood, fillerGood, entryGood, placeGood, mapGood}
-use Rattle.map.specs.Vectors.{image, two}
+use Rattle.map.specs.Image.{image}
+use Rattle.map.specs.Vectors.{two}
 use Rattle.partition.specs.Partition.{shortAt, counted, zeroCell, stateOf}
 use Rattle.drive.specs.Drive.{wholeArrays, surveyAt, slotAt, openSlot, activeSlot}
 use Rattle.cache.specs.Cache.{cacheOf, isAt, placed, emptied}

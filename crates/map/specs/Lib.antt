@@ -1,3 +1,4 @@
 pub mod Map
+pub mod Image
 pub mod Laws
 pub mod Vectors

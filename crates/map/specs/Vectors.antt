@@ -1,6 +1,6 @@
 -- The rules at images, by computation: each broken image differs from a good one in the rule that it names; the edges on the good
 -- side are good. Assumes nothing.
-use Prim.Native.Nat.{ℕ, zero, suc, _+_, _/_, _%_}
+use Prim.Native.Nat.{ℕ, zero, suc, _+_}
 use mathlib.Core.Path.{_≡_, refl}
 use mathlib.Core.Bool.{true, false}
 use mathlib.Core.List.{List, [], _∷_, _++_, map}
@@ -8,16 +8,8 @@ use lib.ListN.{replicate}
 use Rattle.laws.specs.Tests.{every}
 use Rattle.laws.specs.Below.{allBelow}
 use Rattle.endian.specs.Endian.{u16At}
+use Rattle.map.specs.Image.{u16, entry, image}
 use Rattle.map.specs.Map.{headerGood, fillerGood, entryGood, placeGood, mapGood}
-
-abbrev pub u16 : ℕ → List ℕ
-u16 v = v % 256 ∷ v / 256 ∷ []
-
-abbrev pub entry : (first n kind flags : ℕ) → List ℕ
-entry first n kind flags = u16 first ++ u16 n ++ (kind ∷ flags ∷ 0 ∷ 0 ∷ [])
-
-abbrev pub image : (p c b e : ℕ) (filler entries : List ℕ) → List ℕ
-image p c b e filler entries = u16 p ++ u16 c ++ u16 b ++ u16 e ++ filler ++ entries
 
 -- entries of four cells, one after the other
 abbrev row : (count first : ℕ) → List ℕ

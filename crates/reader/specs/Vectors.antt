@@ -5,7 +5,8 @@ use Rattle.laws.specs.Tests.{every}
 use Rattle.laws.specs.Below.{allBelow}
 use Rattle.endian.specs.Endian.{u16At}
 use Rattle.map.specs.Map.{headerGood, fillerGood, entryGood, placeGood, mapGood}
-use Rattle.map.specs.Vectors.{image, two}
+use Rattle.map.specs.Image.{image}
+use Rattle.map.specs.Vectors.{two}
 use Rattle.map.specs.declared.Header.{Header}
 use Rattle.map.specs.declared.Entry.{Entry}
 use Rattle.reader.specs.Reader.{bothOf, readingOf}

@@ -8,7 +8,8 @@ use Rattle.laws.specs.Tests.{every}
 use Rattle.laws.specs.Below.{allBelow, countBelow, firstFrom}
 use Rattle.endian.specs.Endian.{u16At}
 use Rattle.map.specs.Map.{headerGood, fillerGood, entryGood, placeGood, mapGood}
-use Rattle.map.specs.Vectors.{image, entry, one, two}
+use Rattle.map.specs.Image.{image, entry}
+use Rattle.map.specs.Vectors.{one, two}
 use Rattle.partition.specs.Partition.{shortAt, counted, zeroCell, stateOf}
 use Rattle.drive.specs.Drive.{wholeArrays, surveyAt, slotAt, openSlot, activeSlot}
 use Rattle.drive.specs.Vectors.{erased, torn, blank, programmed}

@@ -8,7 +8,8 @@ use Rattle.laws.specs.Tests.{every}
 use Rattle.laws.specs.Below.{allBelow, countBelow, firstFrom, joinBelow}
 use Rattle.endian.specs.Endian.{u16At, u32At}
 use Rattle.map.specs.Map.{headerGood, fillerGood, entryGood, placeGood, mapGood}
-use Rattle.map.specs.Vectors.{image, two}
+use Rattle.map.specs.Image.{image}
+use Rattle.map.specs.Vectors.{two}
 use Rattle.partition.specs.Partition.{shortAt, counted, zeroCell, stateOf}
 use Rattle.drive.specs.Drive.{surveyAt, slotAt, openSlot, activeSlot}
 use Rattle.reason.specs.Reason.{notSlot, reasonIn}

@@ -1,4 +1,4 @@
--- The answers as numbers, for C: each case of a partition's fields, a listing, a reason, a place, an answer, a reply and an engine order. Assumes nothing.
+-- The answers as numbers, for C: each case of a partition's fields, a map's text, a listing, a reason, a place, an answer, a reply and an engine order. Assumes nothing.
 use Prim.Native.Nat.{ℕ}
 use Rattle.cache.specs.declared.Place.{Place}
 use Rattle.cache.specs.declared.Place.the-variants.{Empty, Held}
@@ -6,6 +6,8 @@ use Rattle.engine.specs.declared.Order.{Order}
 use Rattle.engine.specs.declared.Order.the-variants.{Nothing, Clear, Load, Unload}
 use Rattle.map.specs.declared.Header.{Header}
 use Rattle.map.specs.declared.Entry.{Entry}
+use Rattle.plan.specs.declared.Answer.{Answer as Writing}
+use Rattle.plan.specs.declared.Answer.the-variants.{Written, Refused as NotWritten}
 use Rattle.reader.specs.declared.Reading.{Reading}
 use Rattle.reader.specs.declared.Reading.the-variants.{Partition, Refused as NoFields}
 use Rattle.reason.specs.declared.Reason.{Reason}
@@ -19,6 +21,7 @@ use Rattle.erasure.specs.declared.Answer.the-variants.{Ended, Cut, Refused as R
 use Rattle.mailbox.specs.declared.Reply.{Reply}
 use Rattle.mailbox.specs.declared.Reply.the-variants.{Refused, Accepted}
 use Rattle.sciambrunola.specs.declared.numbers.SciFields.{SciFields}
+use Rattle.sciambrunola.specs.declared.numbers.SciWritten.{SciWritten}
 use Rattle.sciambrunola.specs.declared.numbers.SciListing.{SciListing}
 use Rattle.sciambrunola.specs.declared.reasons.SciReason.{SciReason}
 use Rattle.sciambrunola.specs.declared.numbers.SciPlace.{SciPlace}
@@ -33,6 +36,11 @@ fieldsNumbers (Partition fields) =
     let entry : Entry = fields .entry in
     record { refusal = 0; partitions = header .partitions; cells = header .cells; bound = header .bound; first = entry .first; length = entry .n; kind = entry .kind; flags = entry .flags }
 fieldsNumbers (NoFields number) = record { refusal = number; partitions = 0; cells = 0; bound = 0; first = 0; length = 0; kind = 0; flags = 0 }
+
+-- request P2: how long the image is that was written
+abbrev pub writtenNumbers : Writing → SciWritten
+writtenNumbers (Written bytes) = record { refusal = 0; bytes = bytes }
+writtenNumbers (NotWritten number) = record { refusal = number; bytes = 0 }
 
 -- how many partitions were listed
 abbrev pub listingNumbers : Listing → SciListing

@@ -1,9 +1,9 @@
-// What C and Rust call, in a static archive: a map's fields, the states, the reason why no HEK is
-// offered, a place of the key cache, the direct commands, the erasures, the restart and the mailbox,
-// their answers as the numbers of `numbers` and `reasons`. Each function does what the entry point
-// below it does, for any bytes and any lengths, and asks nothing of its caller but what
-// include/sciambrunola.h says of pointers. It rests on `reader`, `states`, `reason`, `cache`, `direct`,
-// `erasure` and `mailbox`, and on the array of `context`.
+// What C and Rust call, in a static archive: a map's fields, a map from its text, the states, the
+// reason why no HEK is offered, a place of the key cache, the direct commands, the erasures, the restart
+// and the mailbox, their answers as the numbers of `numbers` and `reasons`. Each function does what the
+// entry point below it does, for any bytes and any lengths, and asks nothing of its caller but what
+// include/sciambrunola.h says of pointers. It rests on `reader`, `plan`, `states`, `reason`, `cache`,
+// `direct`, `erasure` and `mailbox`, and on the array of `context`.
 mod numbers;
 mod reasons;
 
@@ -15,17 +15,19 @@ use numbers::SciFields;
 use numbers::SciListing;
 use numbers::SciPlace;
 use numbers::SciReply;
+use numbers::SciWritten;
 use reasons::SciReason;
 ghost use mathlib.Core.Path.{_≡_};
 ghost use Rattle.context.specs.State.{state, outcome, telling};
 ghost use Rattle.cache.specs.Cache.{cacheOf, placeAt, emptied};
 ghost use Rattle.reader.specs.Reader.{readingOf};
+ghost use Rattle.plan.specs.Writing.{writingOf};
 ghost use Rattle.states.specs.States.{lists, listingOf};
 ghost use Rattle.reason.specs.Reason.{reasonOf};
 ghost use Rattle.erasure.specs.Erasure.{erasureOf, cutErasureOf};
 ghost use Rattle.direct.specs.Direct.{directOf};
 ghost use Rattle.mailbox.specs.Mailbox.{lent, mailboxOf};
-ghost use Rattle.sciambrunola.specs.Numbers.{fieldsNumbers, listingNumbers, reasonNumbers, placeNumbers, answerNumbers, erasureNumbers, replyNumbers};
+ghost use Rattle.sciambrunola.specs.Numbers.{fieldsNumbers, writtenNumbers, listingNumbers, reasonNumbers, placeNumbers, answerNumbers, erasureNumbers, replyNumbers};
 
 // The fields of a partition.
 #[no_mangle]
@@ -33,6 +35,14 @@ pub extern "C" fn sci_partition(image: &[u8], partition: u32) -> SciFields
     ensures { λ r. ⌜ r ≡ fieldsNumbers (readingOf (now (image .entry)) partition) ⌝ }
 {
     numbers::flat_fields(reader::read_partition(image, partition))
+}
+
+// The image of a map, from its text.
+#[no_mangle]
+pub extern "C" fn sci_write_map(text: &[u8], image: &mut [u8]) -> SciWritten
+    ensures { λ r. ⌜ outcome r (now (image .exit)) ≡ telling writtenNumbers (writingOf (now (text .entry)) (now (image .entry))) ⌝ }
+{
+    numbers::flat_written(plan::write_map(text, image))
 }
 
 // The state and the short pairs of each partition.

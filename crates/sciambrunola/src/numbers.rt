@@ -1,16 +1,17 @@
 // The answers as numbers, for C, since an enum does not cross: a struct for each kind of answer, and
 // the function that makes it. The numbers of each case are in `specs/Numbers`, but for those of the
 // states, which `states` writes into the lent arrays (`stateNumber`). It rests on the types of
-// `reader`, `states`, `cache`, `direct`, `erasure`, `mailbox` and `engine`.
+// `reader`, `plan`, `states`, `cache`, `direct`, `erasure`, `mailbox` and `engine`.
 use cache::Place;
 use direct::Answer;
 use engine::Order;
 use erasure::Answer as Erasure;
 use mailbox::Reply;
+use plan::Answer as Writing;
 use reader::Reading;
 use states::Listing;
 ghost use mathlib.Core.Path.{_≡_};
-ghost use Rattle.sciambrunola.specs.Numbers.{fieldsNumbers, listingNumbers, placeNumbers, answerNumbers, erasureNumbers, orderNumbers, replyNumbers};
+ghost use Rattle.sciambrunola.specs.Numbers.{fieldsNumbers, writtenNumbers, listingNumbers, placeNumbers, answerNumbers, erasureNumbers, orderNumbers, replyNumbers};
 
 // What a map says of a partition, with its header. refusal: 0 where it is told.
 #[repr(C)]
@@ -23,6 +24,13 @@ pub struct SciFields {
     pub length: u32,
     pub kind: u32,
     pub flags: u32,
+}
+
+// How long an image was written. refusal: 0 where one was.
+#[repr(C)]
+pub struct SciWritten {
+    pub refusal: u32,
+    pub bytes: u32,
 }
 
 // How many partitions were listed. refusal: 0 where they were.
@@ -96,6 +104,22 @@ pub fn flat_fields(reading: Reading) -> SciFields
                 flags: entry.flags as u32,
             }
         }
+    }
+}
+
+// What came of a map's text as numbers.
+pub fn flat_written(writing: Writing) -> SciWritten
+    ensures { λ r. ⌜ r ≡ writtenNumbers writing ⌝ }
+{
+    match writing {
+        Writing::Written(bytes) => SciWritten {
+            refusal: 0,
+            bytes: bytes,
+        },
+        Writing::Refused(number) => SciWritten {
+            refusal: number,
+            bytes: 0,
+        },
     }
 }
 

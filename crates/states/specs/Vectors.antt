@@ -9,7 +9,7 @@ use Rattle.laws.specs.Below.{allBelow, countBelow, joinBelow}
 use Rattle.context.specs.State.{Outcome, outcome, refusing}
 use Rattle.endian.specs.Endian.{u16At}
 use Rattle.map.specs.Map.{headerGood, fillerGood, entryGood, placeGood, mapGood}
-use Rattle.map.specs.Vectors.{image, entry}
+use Rattle.map.specs.Image.{image, entry}
 use Rattle.partition.specs.Partition.{shortAt, counted, zeroCell, stateOf}
 use Rattle.drive.specs.Drive.{wholeArrays, surveyAt}
 use Rattle.drive.specs.Vectors.{erased, torn, blank, programmed}

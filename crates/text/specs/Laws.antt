@@ -30,11 +30,11 @@ enough (suc most) (suc most′) v h h′ =
     (λ (a : ltb v 10 ≡ false). let n = ltb-false v 10 a in rw (a, enough most most′ (v / 10) (omega arith) (omega arith)))
     (decided (ltb v 10))
 
-decimal-one : (v : ℕ) → v < 10 → decimal v ≡ digit v ∷ []
+pub decimal-one : (v : ℕ) → v < 10 → decimal v ≡ digit v ∷ []
 unfolding decimal
 decimal-one v l = rw (lt-ltb v 10 l)
 
-decimal-more : (v : ℕ) → 10 ≤ v → decimal v ≡ decimal (v / 10) ++ (digit v ∷ [])
+pub decimal-more : (v : ℕ) → 10 ≤ v → decimal v ≡ decimal (v / 10) ++ (digit v ∷ [])
 unfolding decimal
 decimal-more v l =
     let n : v ≡ suc (v - 1) = omega arith in

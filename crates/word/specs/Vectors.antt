@@ -4,7 +4,7 @@ use mathlib.Core.Bool.{true, false}
 use mathlib.Core.List.{List, [], _∷_, _++_, map}
 use Rattle.laws.specs.Below.{firstFrom}
 use Rattle.endian.specs.Endian.{u16At}
-use Rattle.map.specs.Vectors.{image, entry}
+use Rattle.map.specs.Image.{image, entry}
 use Rattle.word.specs.Word.{wordIn, holdsAt, wordAt}
 use Rattle.word.specs.declared.Lookup.{Lookup}
 use Rattle.word.specs.declared.Lookup.the-variants.{Word, Nothing}

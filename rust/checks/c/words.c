@@ -1,10 +1,11 @@
 /* Document 01, "The small drive", from C: the direct commands, which the example does not
  * show, and every field of their answers, of a place, a reply, a refused erasure and, by
- * document 02, P1, of reasons. */
+ * document 02, P1 and P2, of reasons and of maps that are written. */
 #include "sciambrunola.h"
 
 #include <inttypes.h>
 #include <stdio.h>
+#include <string.h>
 
 #define CELLS 12
 #define DRIVE image, sizeof image, cells, CELLS, marks, CELLS, &context
@@ -37,6 +38,21 @@ static void print_reason(const char *name, const uint32_t *these, size_t count)
            reason.cell, reason.ones);
 }
 
+/* The map of a text, with this room; the byte behind it must stay. */
+static void print_map(const char *text, size_t room)
+{
+    uint8_t written[SCI_LONGEST_IMAGE + 1];
+    sci_written map;
+    size_t i;
+    memset(written, 0xA5, sizeof written);
+    map = sci_write_map((const uint8_t *)text, strlen(text), written, room);
+    printf("map: refusal %" PRIu32 ", bytes %" PRIu32 ",", map.refusal, map.bytes);
+    for (i = 0; i < map.bytes + 1; i++) {
+        printf(" %02X", written[i]);
+    }
+    printf("\n");
+}
+
 int main(void)
 {
     const uint8_t klod[84] = {0xBC, 0xFE, 0xFF, 0xFF, [8] = 6, [12] = 5, [16] = 7, [20] = 8};
@@ -67,5 +83,10 @@ int main(void)
     print_reason("why", cells, CELLS);
     print_reason("why, torn", torn, CELLS);
     print_reason("why, a cell too few", torn, CELLS - 1);
+    print_map("12 60\n0 6 0 7\n6 6 1 0\n", SCI_LONGEST_IMAGE);
+    print_map("64 33\n0 64 2 0\n", 16);
+    print_map("64 33\n0 64 2 0\n", 15);
+    print_map("12 60\n0 6 0 7\n6 6 1 0", SCI_LONGEST_IMAGE);
+    print_map("12 60\n0 6 0 5\n6 6 1 0\n", SCI_LONGEST_IMAGE);
     return 0;
 }

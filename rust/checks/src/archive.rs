@@ -22,6 +22,7 @@ pub struct Archive {
 // As the header declares them, but for their parameters: their addresses are taken.
 extern "C" {
     fn sci_partition();
+    fn sci_write_map();
     fn sci_states();
     fn sci_why();
     fn sci_cache_place();
@@ -69,9 +70,9 @@ impl KeyBlock for Archive {
         let (function, words) = arguments(lent, &mut context, call);
         let large =
             matches!(call, Call::Partition(_) | Call::Why | Call::Erase(_) | Call::Mailbox(_));
-        // SAFETY: every pointer is that of a part of `lent`, of the context or of the
-        // request, which outlive the call and overlap nowhere; where the header asks for a
-        // count, it follows.
+        // SAFETY: every pointer is that of a part of `lent`, of the context, of the request
+        // or of the text, which outlive the call and overlap nowhere; where the header asks
+        // for a count, it follows.
         let told = unsafe { self.call(function, words, large) };
         context::take_back(lent, &context);
         said(call, told)
@@ -102,7 +103,7 @@ fn lent_words(Drive { image, cells, marks }: &mut Drive, context: &mut Context) 
 /// The function of a call, and its arguments in the header's order.
 fn arguments(lent: &mut Lent, context: &mut Context, call: &Call) -> (Function, Vec<u64>) {
     let drive = lent_words(&mut lent.drive, context);
-    let Lent { response, block, .. } = lent;
+    let Lent { response, block, output, .. } = lent;
     // What stands above the 32 bits of a number is nobody's.
     let low = |number: &u32| u64::from(*number) | 0xDEAD_BEEF << 32;
     let with = |words: &[u64], more: &[u64]| [words, more].concat();
@@ -113,6 +114,10 @@ fn arguments(lent: &mut Lent, context: &mut Context, call: &Call) -> (Function, 
             (sci_states, with(&drive[..6], &lists))
         }
         Call::Why => (sci_why, drive[..6].to_vec()),
+        Call::WriteMap(text) => {
+            let output = [output.as_mut_ptr() as u64, output.len() as u64];
+            (sci_write_map, with(&[text.as_ptr() as u64, text.len() as u64], &output))
+        }
         Call::Place(number) => (sci_cache_place, with(&drive[6..], &[low(number)])),
         Call::Direct(Command::Read { cell }) => (sci_read, with(&drive, &[low(cell)])),
         Call::Direct(Command::Write { cell, value }) => {
@@ -149,6 +154,7 @@ fn said(call: &Call, told: [u32; 8]) -> Said {
         (Call::Place(_), [kind, _, low, high, ..]) => Said::Place([kind.into(), word(low, high)]),
         (Call::States, [refusal, partitions, ..]) => Said::Listing([refusal, partitions]),
         (Call::Why, _) => Said::Reason(reason(told)),
+        (Call::WriteMap(_), [refusal, bytes, ..]) => Said::Written([refusal, bytes]),
         (Call::Restart, _) => Said::Nothing,
         (Call::Direct(_), [0, 0, low, high, ..]) => Said::Answer(Answer::Word(word(low, high))),
         (Call::Direct(_), [1, 0, 0, 0, ..]) => Said::Answer(Answer::Done),

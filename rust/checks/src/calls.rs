@@ -39,7 +39,7 @@ pub type Side<'a> = (Said, &'a Lent);
 
 /// The first thing in which what a key block answers or leaves is not the model's:
 /// the answer, the cells, the places of the cache, the block, the response buffer,
-/// the two arrays of the states, or anything else that is lent.
+/// the two arrays of the states, the buffer for a map, or anything else that is lent.
 pub fn difference((said, expected): Side, (answered, found): Side) -> Option<String> {
     if said == answered && expected == found {
         return None;
@@ -53,7 +53,8 @@ pub fn difference((said, expected): Side, (answered, found): Side) -> Option<Str
         .or_else(|| first("block byte", &expected.block, &found.block))
         .or_else(|| first("response byte", &expected.response, &found.response))
         .or_else(|| first("state", &expected.states, &found.states))
-        .or_else(|| first("short pairs", &expected.short_pairs, &found.short_pairs));
+        .or_else(|| first("short pairs", &expected.short_pairs, &found.short_pairs))
+        .or_else(|| first("output byte", &expected.output, &found.output));
     Some(first.unwrap_or_else(others))
 }
 

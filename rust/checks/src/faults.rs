@@ -1,6 +1,11 @@
 //! Copies of the model with one fault each, for the tests of the tests: one for each thing that a
-//! comparison looks at, for each clause of demand 3 one that breaks it, and wrong reasons. That the
-//! proofs refuse faults of the key block itself is shown by the edits in `crates/*/must-fail`.
+//! comparison looks at, for each clause of demand 3 one that breaks it, wrong reasons and wrong
+//! maps. That the proofs refuse faults of the key block itself is shown by the edits in
+//! `crates/*/must-fail`.
+
+mod maps;
+
+pub use maps::OF_MAPS;
 
 use crate::layout::Layout;
 use model::Reason::{AllErased, Available, Blank, NoSlot, Torn};
@@ -9,7 +14,7 @@ use model::{Reason, Reply, Said};
 use std::ops::Range;
 
 /// Faults by how their difference from the model is told.
-pub const OF_COMPARISONS: [&str; 14] = [
+pub const OF_COMPARISONS: [&str; 16] = [
     "the answer: the model says Answer(",
     "the answer: the model says Erasure(",
     "the answer: the model says Fields(",
@@ -17,12 +22,14 @@ pub const OF_COMPARISONS: [&str; 14] = [
     "the answer: the model says Place(",
     "the answer: the model says Reason(",
     "the answer: the model says Reply(",
+    "the answer: the model says Written(",
     "cell 0: ",
     "place 15: ",
     "block byte 127: ",
     "response byte 7: ",
     "state 0: ",
     "short pairs 15: ",
+    "output byte 8: ",
     "the model leaves ",
 ];
 
@@ -71,6 +78,9 @@ impl KeyBlock for Faulty {
                 self.erased(erasure, range, late, &before, lent).map(Said::Erasure)
             }
             (_, Said::Reply(Reply::Accepted { length, .. })) => self.replied(length, &before, lent),
+            (Call::WriteMap(text), Said::Written(written)) => {
+                maps::written(self.0, text, written, lent)
+            }
             (_, Said::Reason(reason)) => {
                 self.reasoned(reason, &before.drive).map(|reason| Said::Reason(Ok(reason)))
             }
@@ -81,8 +91,11 @@ impl KeyBlock for Faulty {
 }
 
 impl Faulty {
-    /// The call with its numbers in fewer bits, or as it is.
+    /// The call with its numbers in fewer bits or its text taken for another, or as it is.
     fn asked(&self, call: &Call) -> Call {
+        if let Call::WriteMap(text) = call {
+            return Call::WriteMap(maps::taken_for(self.0, text));
+        }
         let bits = match self.0 {
             "numbers in 8 bits" => 0xFF,
             "numbers in 16 bits" => 0xFFFF,

@@ -20,3 +20,4 @@ pub mod runner;
 pub mod small;
 pub mod stack;
 pub mod tally;
+pub mod texts;

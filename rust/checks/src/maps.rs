@@ -107,7 +107,8 @@ fn good_header(random: &mut Random) -> (u16, u16) {
     (random.pick(&[33, 60, 60, 64, bound]), random.pick(&[8, 8, 9, 128, offset]))
 }
 
-fn damage_field(random: &mut Random, image: &mut Image) {
+/// Damages one field of a map, or the order of its entries.
+pub fn damage_field(random: &mut Random, image: &mut Image) {
     let edge = random.pick(&EDGES);
     let at = random.below(image.entries.len());
     let hurt = &mut image.entries[at];

@@ -1,5 +1,5 @@
 //! The programs `status` and `why`, which read the same standard input, against the model, over
-//! generated inputs, whole and damaged.
+//! generated inputs, whole and damaged; and `make_map`, which reads a text.
 
 use crate::random::Random;
 use crate::tally::Tally;
@@ -38,6 +38,15 @@ pub fn with_model(count: usize, input: impl Fn(usize) -> Vec<u8> + Sync) -> Tall
         let reasons = REASONS.into_iter().filter(|reason| line.contains(reason));
         tally.add(table.lines().map(kind).chain(reasons).map(str::to_string));
     })
+}
+
+/// What `make_map` writes for a text that arrives in these pieces, to standard output and to
+/// standard error. Fails the test where that is not the model's.
+pub fn map_made(pieces: &[&[u8]]) -> [Vec<u8>; 2] {
+    let text = pieces.concat();
+    let made = runner::streams(&runner::program("make_map"), pieces);
+    assert_eq!(made, model::text::output(&text), "\"{}\"", text.escape_ascii());
+    made
 }
 
 /// What a program prints for an input.

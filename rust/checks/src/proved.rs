@@ -32,6 +32,10 @@ pub fn answer(lent: &mut Lent, context: &mut Context, call: &Call) -> Said {
             States::Listed(listing) => listed(lent, &listing),
         }),
         Call::Why => Said::Reason(reason_of(proved::why(image, cells, marks))),
+        Call::WriteMap(text) => Said::Written(match proved::write_map(text, &mut lent.output) {
+            Ok(bytes) => [0, bytes as u32],
+            Err(number) => [number, 0],
+        }),
         Call::Place(number) => {
             Said::Place(context.place(*number as usize).map_or([0, 0], |tag| [1, tag]))
         }

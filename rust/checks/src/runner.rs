@@ -23,19 +23,27 @@ pub fn archive() -> PathBuf {
     in_repository("target/staticlib/libsciambrunola.a")
 }
 
-/// The path of a proved program, `status` or `why`.
+/// The path of a proved program, `status`, `why` or `make_map`.
 pub fn program(name: &str) -> PathBuf {
     let program = in_repository("target/bin").join(name);
     assert!(program.is_file(), "{} is missing: build it before these tests", program.display());
     program
 }
 
-/// Runs any program on its standard input, and gives what it printed. Pieces arrive with a pause
-/// between them, so that the program meets reads that bring less than it asked for. Fails the test
-/// if the program does not start, does not end, ends with a status other than 0 or prints to
-/// standard error. Input and output go through threads of their own, so that neither a full pipe
-/// nor a program that stops reading early can block the run.
+/// Runs any program on its standard input, and gives what it printed, of which nothing is on
+/// standard error.
 pub fn run(path: &Path, input: &[&[u8]]) -> Vec<u8> {
+    let [output, errors] = streams(path, input);
+    assert!(errors.is_empty(), "printed to standard error: {}", String::from_utf8_lossy(&errors));
+    output
+}
+
+/// Runs any program on its standard input, and gives what it printed to standard output and to
+/// standard error. Pieces arrive with a pause between them, so that the program meets reads that
+/// bring less than it asked for. Fails the test if the program does not start, does not end, or
+/// ends with a status other than 0. Input and output go through threads of their own, so that
+/// neither a full pipe nor a program that stops reading early can block the run.
+pub fn streams(path: &Path, input: &[&[u8]]) -> [Vec<u8>; 2] {
     let mut command = Command::new(path);
     command.stdin(Stdio::piped()).stdout(Stdio::piped()).stderr(Stdio::piped());
     let mut child = command.spawn().unwrap_or_else(|error| panic!("{}: {error}", path.display()));
@@ -44,7 +52,7 @@ pub fn run(path: &Path, input: &[&[u8]]) -> Vec<u8> {
     let mut streams = (child.stdout.take(), child.stderr.take());
     let printed = thread::scope(|scope| {
         scope.spawn(move || feed(stdin, input));
-        scope.spawn(move || sender.send((read_all(&mut streams.0), read_all(&mut streams.1))));
+        scope.spawn(move || sender.send([read_all(&mut streams.0), read_all(&mut streams.1)]));
         let printed = receiver.recv_timeout(LIMIT);
         if printed.is_err() {
             child.kill().expect("the program can be stopped");
@@ -52,11 +60,9 @@ pub fn run(path: &Path, input: &[&[u8]]) -> Vec<u8> {
         printed
     });
     let exit = child.wait().expect("the program's exit status can be read");
-    let (output, errors) =
-        printed.unwrap_or_else(|_| panic!("no end within {LIMIT:?} on {input:02X?}"));
+    let printed = printed.unwrap_or_else(|_| panic!("no end within {LIMIT:?} on {input:02X?}"));
     assert!(exit.success(), "{exit} on {input:02X?}");
-    assert!(errors.is_empty(), "printed to standard error: {}", String::from_utf8_lossy(&errors));
-    output
+    printed
 }
 
 /// Writes the input piece by piece, then closes the pipe. A program that

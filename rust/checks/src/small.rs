@@ -10,6 +10,9 @@ use sciambrunola::{States, BLOCK_BYTES, LEAST_RESPONSE};
 /// The partition that is a slot; the other one is software.
 pub const SLOT: u32 = 0;
 
+/// Its map as the text of document 02, P2.
+pub const MAP_TEXT: &str = "12 60\n0 6 0 7\n6 6 1 0\n";
+
 /// The drive with no key held and this mark on a cell. Block and response buffer
 /// hold bytes that no answer has.
 pub fn marked(cell: usize, mark: u32) -> Lent {

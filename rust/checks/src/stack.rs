@@ -4,10 +4,10 @@
 
 use crate::context;
 use crate::painted::depth;
-use crate::small::{self, SLOT};
+use crate::small::{self, MAP_TEXT, SLOT};
 use model::mailbox::fields::Command as Mail;
 use model::{Drive, Lent, Request, Values};
-use sciambrunola::{direct, erase, erase_cut, mailbox, partition, restart, states, why};
+use sciambrunola::{direct, erase, erase_cut, mailbox, partition, restart, states, why, write_map};
 use sciambrunola::{Answer, Command, Context, Erasure, Fields, Reason, Reply, States};
 
 /// A software word of the small drive, which READ and WRITE may touch, and a
@@ -43,6 +43,9 @@ fn of_reading() -> Vec<Used> {
 /// That of the others.
 fn of_changing() -> Vec<Used> {
     static STARTED: Context = Context::new();
+    let map = carried_out(None, |Drive { image, .. }, _| {
+        write_map(MAP_TEXT.as_bytes(), image) == Ok(image.len())
+    });
     let erasure = carried_out(None, |Drive { image, cells, marks }, context| {
         matches!(erase(image, cells, marks, context, SLOT), Erasure::Ended { .. })
     });
@@ -54,6 +57,7 @@ fn of_changing() -> Vec<Used> {
         *context == STARTED
     });
     vec![
+        ("map", map),
         ("READ", of_direct(Command::Read { cell: SOFTWARE_WORD })),
         ("WRITE", of_direct(Command::Write { cell: SOFTWARE_WORD, value: 5 })),
         ("ZEROIZE", of_direct(Command::Zeroize { cell: SLOT_WORD })),

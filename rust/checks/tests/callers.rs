@@ -1,9 +1,10 @@
 //! Callers. A C program is compiled with every warning an error, linked and run; its lines are
-//! written from document 01, with the mark 1F on cell 5: the indicator gets 59 ones, is
+//! written from the documents, with the mark 1F on cell 5: the indicator gets 59 ones, is
 //! withheld, and stops an erasure, so that the slot is still programmed and its HEK available.
-//! Other cells have the indicator set and three fuses of the digest: they are torn. A program
-//! that drops an erasure's answer is warned by its compiler, in C and in Rust: an erasure that
-//! ended is not yet an erased partition.
+//! Other cells have the indicator set and three fuses of the digest: they are torn. The maps are
+//! the header's two texts, then one with too little room, one without its last line feed, and one
+//! with a slot that is not secret. A program that drops an erasure's answer is warned by its
+//! compiler, in C and in Rust: an erasure that ended is not yet an erased partition.
 
 use checks::runner::{compiled, in_repository, run};
 use std::path::{Path, PathBuf};
@@ -23,6 +24,11 @@ place 0: kind 1, tag 700000005
 why: kind 0, refusal 0, partition 0, cell 0, ones 0
 why, torn: kind 4, refusal 0, partition 0, cell 2, ones 3
 why, a cell too few: kind 5, refusal 2, partition 0, cell 0, ones 0
+map: refusal 0, bytes 24, 02 00 0C 00 3C 00 08 00 00 00 06 00 00 07 00 00 06 00 06 00 01 00 00 00 A5
+map: refusal 0, bytes 16, 01 00 40 00 21 00 08 00 00 00 40 00 02 00 00 00 A5
+map: refusal 16, bytes 0, A5
+map: refusal 16, bytes 0, A5
+map: refusal 1, bytes 0, A5
 ";
 
 fn in_target(name: &str) -> PathBuf {

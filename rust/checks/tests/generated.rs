@@ -1,15 +1,21 @@
 //! The programs `status` and `why` against the model and against each other, over generated
-//! inputs, and on the small drive, for which the table is document 01's.
+//! inputs, and on the small drive, for which the table is document 01's; and `make_map` against
+//! the model, over generated texts, and on the small drive's.
 
 use checks::maps;
-use checks::programs::{self, agree, printed, with_model};
+use checks::programs::{self, agree, map_made, printed, with_model};
 use checks::random::Random;
 use checks::runner::in_repository;
+use checks::small::MAP_TEXT;
+use checks::tally::Tally;
+use checks::texts::Text;
 use model::Drive;
 use std::fs;
 
 /// Generated inputs of a run, besides the cuts around the boundaries.
 const INPUTS: usize = 20_000;
+/// Generated texts of maps.
+const TEXTS: usize = 12_000;
 /// Drives that are cut at every length around every boundary.
 const CUT_DRIVES: u64 = 40;
 /// Each outcome has to be met so often, or the generator has become trivial.
@@ -52,6 +58,30 @@ fn both_are_the_models_on_the_small_drive_with_any_bit_flipped() {
         input
     };
     with_model(8 * whole.len(), flipped);
+}
+
+#[test]
+fn make_map_is_the_models_on_generated_texts_of_every_outcome() {
+    let total = Tally::over(TEXTS, |tally, number| {
+        let [image, told] = map_made(&[&Text::numbered(number).bytes]);
+        let refused = String::from_utf8_lossy(&told).trim_end().to_string();
+        tally.add([if image.is_empty() { refused } else { format!("{} bytes", image.len()) }]);
+    });
+    let lengths = (1..=16).map(|partitions| format!("{} bytes", 8 + 8 * partitions));
+    let refusals = [16, 1].map(|number| format!("refused {number}"));
+    total.check((TEXTS, "texts"), refusals.into_iter().chain(lengths).collect(), LEAST / 5);
+}
+
+#[test]
+fn make_map_is_the_models_on_the_small_drives_text_cut_at_every_length_or_with_any_bit_flipped() {
+    let given = fs::read(in_repository("crates/make_map/stdin")).expect("the program's own input");
+    assert_eq!(String::from_utf8_lossy(&given), MAP_TEXT);
+    (0..=given.len()).for_each(|length| drop(map_made(&[&given[..length]])));
+    for bit in 0..8 * given.len() {
+        let mut flipped = given.clone();
+        flipped[bit / 8] ^= 1 << (bit % 8);
+        map_made(&[&flipped]);
+    }
 }
 
 /// What holds of every output above can fail.

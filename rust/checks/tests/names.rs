@@ -1,4 +1,4 @@
-//! The names of the C header and of the safe Rust calls have document 01's numbers. The kinds of
+//! The names of the C header and of the safe Rust calls have the documents' numbers. The kinds of
 //! answers and of places, the states, the reasons, the orders and the words of a context have none
 //! there; theirs are the archive's, which `callers`, `cache_places` and `calls` see in its answers.
 
@@ -10,14 +10,16 @@ use std::process::Command;
 
 /// Every name of the header after `SCI_`, in its order, with its number in hexadecimal.
 const HEADER: &str = "\
-VERSION 6
+VERSION 7
 PLACES 10, CONTEXT_WORDS 20, BLOCK_BYTES 80, LEAST_RESPONSE 14, PARTITIONS 10
+LONGEST_IMAGE 88
 KIND_HARDWARE 0, KIND_SOFTWARE 1, KIND_LIFE_CYCLE 2
 FLAG_ZEROIZABLE 1, FLAG_SECRET 2, FLAG_SLOT 4
 REFUSAL_MAP 1, REFUSAL_LENGTHS 2, REFUSAL_CODE 3, REFUSAL_REQUEST_LENGTH 4
 REFUSAL_CHKSUM 5, REFUSAL_RESERVED 6, REFUSAL_NOT_FOUND 7, REFUSAL_FORBIDDEN 8
 REFUSAL_CLEARS_FUSE 9, REFUSAL_KEYS_HELD A, REFUSAL_NO_HEK B, REFUSAL_TAG_HELD C
 REFUSAL_NO_PLACE D, REFUSAL_TAG_NOT_HELD E, REFUSAL_INDICATOR_SHORT F
+REFUSAL_TEXT 10
 STATE_ERASED 0, STATE_TORN 1, STATE_BLANK 2, STATE_PROGRAMMED 3
 REASON_AVAILABLE 0, REASON_NO_SLOT 1, REASON_ALL_ERASED 2
 REASON_BLANK 3, REASON_TORN 4, REASON_REFUSED 5
@@ -56,14 +58,15 @@ fn names_of_the_safe_calls_have_the_documents_numbers() {
     assert_eq!([refusal::REQUEST_LENGTH, refusal::CHKSUM, refusal::RESERVED], [4, 5, 6]);
     assert_eq!([refusal::NOT_FOUND, refusal::FORBIDDEN, refusal::CLEARS_FUSE], [7, 8, 9]);
     assert_eq!([refusal::KEYS_HELD, refusal::NO_HEK, refusal::TAG_HELD], [10, 11, 12]);
-    let last = [refusal::NO_PLACE, refusal::TAG_NOT_HELD, refusal::INDICATOR_SHORT];
-    assert_eq!(last, [13, 14, 15]);
+    let last = [refusal::NO_PLACE, refusal::TAG_NOT_HELD, refusal::INDICATOR_SHORT, refusal::TEXT];
+    assert_eq!(last, [13, 14, 15, 16]);
     let codes = [code::CLKC, code::KLOD, code::KUNL, code::FERS, code::FSTA];
     assert_eq!(codes, [0x434C_4B43, 0x4B4C_4F44, 0x4B55_4E4C, 0x4645_5253, 0x4653_5441]);
     assert_eq!([kind::HARDWARE, kind::SOFTWARE, kind::LIFE_CYCLE], [0, 1, 2]);
     assert_eq!([flag::ZEROIZABLE, flag::SECRET, flag::SLOT], [1, 2, 4]);
     assert_eq!([sciambrunola::BLOCK_BYTES, sciambrunola::LEAST_RESPONSE], [128, 20]);
     assert_eq!([sciambrunola::PLACES, sciambrunola::PARTITIONS], [16, 16]);
+    assert_eq!(sciambrunola::LONGEST_IMAGE, 136);
     let bytes = std::mem::size_of::<sciambrunola::Context>();
     assert_eq!([sciambrunola::CONTEXT_WORDS, bytes], [32, 256]);
     assert_eq!([sciambrunola::NO_CELL, sciambrunola::NO_SLOT], [0xFFFF_FFFF; 2]);

@@ -1,14 +1,21 @@
-//! The programs `status` and `why` where their input cannot be read or their output cannot be
-//! written: they say so on standard error. Where the input fails, nothing is on standard output;
-//! where the output fails, part of it may be, so a table or a line counts only with nothing
-//! on standard error. They have no exit status of their own to give.
+//! The programs where their input cannot be read or their output cannot be written: they say so on
+//! standard error. Where the input fails, nothing is on standard output; where the output fails,
+//! part of it may be, so a table, a line or an image counts only with nothing on standard error.
+//! They have no exit status of their own to give.
 
-use checks::programs::PROGRAMS;
 use checks::runner::{in_repository, program};
 use std::fs::{self, File, OpenOptions};
 use std::io::{Seek, SeekFrom, Write};
 use std::os::unix::process::ExitStatusExt;
 use std::process::{Command, Output, Stdio};
+
+/// The programs, each with an input that it accepts, and with what an empty one gives on standard
+/// output and on standard error.
+const PROGRAMS: [(&str, &str, [&str; 2]); 3] = [
+    ("status", "crates/status/stdin", ["refused 2\n", ""]),
+    ("why", "crates/status/stdin", ["refused 2\n", ""]),
+    ("make_map", "crates/make_map/stdin", ["", "refused 16\n"]),
+];
 
 /// What they say after their name.
 const UNREAD: &str = ": standard input cannot be read\n";
@@ -29,17 +36,20 @@ fn open(path: &str) -> File {
     File::open(in_repository(path)).expect("it can be opened")
 }
 
-/// Runs a program to its own end, and checks what it printed and, after its name, told on
-/// standard error.
-fn check(name: &str, command: &mut Command, printed: &str, told: &str) {
-    is(name, &command.output().expect("the program starts"), printed, told);
+/// Runs a program to its own end, and checks that it printed nothing and told this after its name.
+fn check(name: &str, command: &mut Command, told: &str) {
+    tells(name, &command.output().expect("the program starts"), told);
 }
 
-fn is(name: &str, run: &Output, printed: &str, told: &str) {
+fn tells(name: &str, run: &Output, told: &str) {
+    is(run, ["", &format!("{name}{told}")]);
+}
+
+/// Checks the two streams of a run, and that it ended well.
+fn is(run: &Output, expected: [&str; 2]) {
     let text = [&run.stdout, &run.stderr].map(|bytes| String::from_utf8_lossy(bytes));
-    assert!(run.status.success(), "{name}: {}", run.status);
-    let told = if told.is_empty() { String::new() } else { format!("{name}{told}") };
-    assert_eq!(text, [printed, &told]);
+    assert!(run.status.success(), "{}", run.status);
+    assert_eq!(text, expected);
 }
 
 /// This process's memory, from `count` bytes before a place where there is none: a file
@@ -62,42 +72,41 @@ fn fails_after(count: u64) -> File {
 
 #[test]
 fn input_that_cannot_be_read_is_told_apart_from_an_empty_one() {
-    for (name, _) in PROGRAMS {
+    for (name, _, of_empty) in PROGRAMS {
         let start = |words| started(name, words);
-        check(name, &mut start("exec \"$0\""), "refused 2\n", "");
-        check(name, &mut start("exec \"$0\" <&-"), "", UNREAD);
-        check(name, start("exec \"$0\"").stdin(open("drives")), "", UNREAD);
+        is(&start("exec \"$0\"").output().expect("the program starts"), of_empty);
+        check(name, &mut start("exec \"$0\" <&-"), UNREAD);
+        check(name, start("exec \"$0\"").stdin(open("drives")), UNREAD);
         for count in [0, 1, 100] {
-            check(name, start("exec \"$0\"").stdin(fails_after(count)), "", UNREAD);
+            check(name, start("exec \"$0\"").stdin(fails_after(count)), UNREAD);
         }
     }
 }
 
 #[test]
 fn output_that_cannot_be_written_is_told() {
-    let drive = || open("crates/status/stdin");
-    for (name, _) in PROGRAMS {
+    for (name, accepted, _) in PROGRAMS {
         let full = OpenOptions::new().write(true).open("/dev/full").expect("the device is there");
-        check(name, started(name, "exec \"$0\"").stdin(drive()).stdout(full), "", UNWRITTEN);
-        check(name, started(name, "exec \"$0\" >&-").stdin(drive()), "", UNWRITTEN);
+        check(name, started(name, "exec \"$0\"").stdin(open(accepted)).stdout(full), UNWRITTEN);
+        check(name, started(name, "exec \"$0\" >&-").stdin(open(accepted)), UNWRITTEN);
     }
 }
 
 /// By default the system ends the program before the kit can tell it anything.
 #[test]
 fn a_pipe_that_nobody_reads_is_told_where_the_signal_is_ignored() {
-    let unread = |name, words| {
+    let unread = |name, accepted, words| {
         let mut command = started(name, words);
         let mut child = command.stdin(Stdio::piped()).spawn().expect("the program starts");
         drop(child.stdout.take());
-        let drive = fs::read(in_repository("crates/status/stdin")).expect("a drive to write");
+        let input = fs::read(in_repository(accepted)).expect("an input to write");
         let mut stdin = child.stdin.take().expect("standard input is a pipe");
-        stdin.write_all(&drive).expect("the program reads its input");
+        stdin.write_all(&input).expect("the program reads its input");
         drop(stdin);
         child.wait_with_output().expect("the program ends")
     };
-    for (name, _) in PROGRAMS {
-        is(name, &unread(name, "trap '' PIPE; exec \"$0\""), "", UNWRITTEN);
-        assert_eq!(unread(name, "exec \"$0\"").status.signal(), Some(SIGPIPE));
+    for (name, accepted, _) in PROGRAMS {
+        tells(name, &unread(name, accepted, "trap '' PIPE; exec \"$0\""), UNWRITTEN);
+        assert_eq!(unread(name, accepted, "exec \"$0\"").status.signal(), Some(SIGPIPE));
     }
 }

@@ -1,8 +1,9 @@
-//! The sample drives of `drives/`: what `status` and `why` print for each is what stands beside
-//! it, and what an erasure or a cut is said to have left is what the library leaves.
+//! The sample drives of `drives/`: what `status` and `why` print for each, or the mistake that
+//! `make_drive` finds in it, is what stands beside it; and what an erasure or a cut is said to
+//! have left is what the library leaves.
 
 use checks::calls::commands::low_bits;
-use checks::programs::{printed, PROGRAMS};
+use checks::programs::{both, map_made, printed, PROGRAMS};
 use checks::proved::Proved;
 use checks::runner::in_repository;
 use drives::Drive;
@@ -19,7 +20,7 @@ const OF_OTHERS: [(&str, &[usize]); 4] = [
 ];
 
 /// The samples that no erasure has touched.
-const UNTOUCHED: [&str; 4] = ["fresh", "no_slot", "programmed", "refused_map"];
+const UNTOUCHED: [&str; 3] = ["fresh", "no_slot", "programmed"];
 
 /// The names of the files in `drives/` that end so.
 fn names(ending: &str) -> BTreeSet<String> {
@@ -39,20 +40,67 @@ fn drive(name: &str) -> Drive {
     Drive::read(&text(&format!("{name}.txt"))).unwrap_or_else(|error| panic!("{name}: {error}"))
 }
 
+/// The samples with a mistake, which are no drives.
+fn mistaken() -> BTreeSet<String> {
+    names(".mistake")
+}
+
+/// The samples that are drives.
+fn samples() -> BTreeSet<String> {
+    &names(".txt") - &mistaken()
+}
+
 #[test]
 fn programs_print_what_stands_beside_each_text_which_begins_with_what_happened() {
     for (program, _) in PROGRAMS {
-        assert_eq!(names(".txt"), names(&format!(".{program}")));
-        for name in names(".txt") {
+        assert_eq!(samples(), names(&format!(".{program}")));
+        for name in samples() {
             let printed = printed(program, &drive(&name).bytes());
             assert_eq!(printed, text(&format!("{name}.{program}")), "{name}, {program}");
-            assert!(text(&format!("{name}.txt")).starts_with("# "), "{name}: what happened");
         }
+    }
+    for name in names(".txt") {
+        assert!(text(&format!("{name}.txt")).starts_with("# "), "{name}: what happened");
     }
 }
 
+#[test]
+fn make_drive_tells_the_mistake_that_stands_beside_a_text() {
+    assert_eq!(mistaken(), BTreeSet::from(["refused_map".to_string()]));
+    for name in mistaken() {
+        let mistake = Drive::read(&text(&format!("{name}.txt"))).expect_err("it has a mistake");
+        assert_eq!(format!("make_drive: {mistake}\n"), text(&format!("{name}.mistake")), "{name}");
+    }
+}
+
+/// The map's lines begin with a digit, and no others do.
+#[test]
+fn make_map_makes_the_map_of_each_text_from_its_lines() {
+    for name in samples() {
+        let whole = text(&format!("{name}.txt"));
+        let of_map = |line: &&str| line.starts_with(|first: char| first.is_ascii_digit());
+        let lines: String = whole.split_inclusive('\n').filter(of_map).collect();
+        assert_eq!(
+            map_made(&[lines.as_bytes()]),
+            [drive(&name).image().to_vec(), vec![]],
+            "{name}"
+        );
+    }
+}
+
+/// Its slot is not secret: flags 5, at byte 13, and all else is the small drive's.
+#[test]
+fn programs_refuse_the_bytes_of_the_refused_map() {
+    let right = text("refused_map.txt").replace("0 6 0 5\n", "0 6 0 7\n");
+    let mut small = model::drive::Drive::small();
+    assert_eq!(Drive::read(&right).map(|drive| drive.bytes()), Ok(small.status_input()));
+    small.image[13] = 5;
+    assert_eq!(both(&small.status_input()), ["refused 1\n"; 2]);
+}
+
 /// A row is `| name | what happened | lines of the table | line of why |`, the name and
-/// each of the lines in backticks; each output's last line is the last of its column.
+/// each of the lines in backticks; each output's last line is the last of its column. A sample
+/// with a mistake has no output.
 #[test]
 fn table_has_a_row_for_each_sample_and_quotes_its_outputs() {
     let readme = text("README.md");
@@ -63,7 +111,8 @@ fn table_has_a_row_for_each_sample_and_quotes_its_outputs() {
         let [name, _, table, line]: [&str; 4] = columns.try_into().expect("four columns");
         let name = name.strip_suffix('`').expect("the name is in backticks");
         for (program, column) in [("status", table), ("why", line)] {
-            let output = text(&format!("{name}.{program}"));
+            let is_drive = !mistaken().contains(name);
+            let output = if is_drive { text(&format!("{name}.{program}")) } else { String::new() };
             let quoted: Vec<&str> = column.split('`').skip(1).step_by(2).collect();
             assert!(quoted.iter().all(|quote| output.lines().any(|line| line == *quote)), "{name}");
             assert_eq!(quoted.last().copied(), output.lines().last(), "{name}, {program}");
@@ -89,7 +138,7 @@ fn erasures_of_the_small_drive_leave_the_samples_cells() {
     let small = drive("programmed");
     assert_eq!(small.bytes(), model::drive::Drive::small().status_input());
     let other = |name: &String| OF_OTHERS.iter().any(|(other, _)| other == name);
-    let samples = names(".txt").into_iter().filter(|name| !other(name));
+    let samples = samples().into_iter().filter(|name| !other(name));
     for name in samples.filter(|name| !UNTOUCHED.contains(&name.as_str())) {
         let sample = drive(&name);
         assert_eq!(sample.image(), small.image(), "{name}");

@@ -26,10 +26,11 @@ fn check(named: &[&PathBuf], input: Option<&PathBuf>, expected: Result<&[u8], &s
 
 #[test]
 fn text_is_read_from_standard_input_or_from_the_file_that_is_named() {
-    let good = file("good", b"1 60\ncell 0 1\n");
-    let bytes = [8, 0, 0, 0, 1, 0, 60, 0, 8, 0, 1, 0, 0, 0, 0, 0, 0, 0];
-    let mistaken = file("mistaken", b"1 60\ncell 0 1\ncell 1 1\n");
-    let said = "line 3: cell 1 is past the end: C is 1, and the first cell is 0";
+    let good = file("good", b"4 60\n0 4 0 0\ncell 0 1\n");
+    let mut bytes = vec![16, 0, 1, 0, 4, 0, 60, 0, 8, 0, 0, 0, 4, 0, 0, 0, 0, 0, 1];
+    bytes.resize(2 + 16 + 2 * 4 * 4, 0);
+    let mistaken = file("mistaken", b"4 60\n0 4 0 0\ncell 4 1\n");
+    let said = "line 3: cell 4 is past the end: C is 4, and the first cell is 0";
     for (text, expected) in [(good, Ok(&bytes[..])), (mistaken, Err(said))] {
         check(&[], Some(&text), expected);
         check(&[&text], None, expected);
@@ -38,7 +39,7 @@ fn text_is_read_from_standard_input_or_from_the_file_that_is_named() {
 
 #[test]
 fn text_that_cannot_be_read_is_told_and_nothing_written() {
-    let no_text = file("no_text", b"1 60\ncell 0 \xFF\n");
+    let no_text = file("no_text", b"4 60\n0 4 0 0\ncell 0 \xFF\n");
     check(&[], Some(&no_text), Err("the text is not UTF-8"));
     let missing = PathBuf::from("no/such/text");
     let two = "name one text, or none to read standard input";

@@ -29,36 +29,34 @@ fn small_drive_is_the_documents_bytes() {
 
 #[test]
 fn numbers_are_little_endian_and_marks_follow_the_cells() {
-    let drive = read("2 513\n772 1286 7 8\ncell 0 A1B2C3D4\nmark 1 5E6F7\n");
+    let drive = read("516 60\n258 258 2 0\ncell 0 A1B2C3D4\nmark 515 5E6F7\n");
     let image = [
-        1, 0, 2, 0, 1, 2, 8, 0, // P, C, B, E
-        4, 3, 6, 5, 7, 8, 0, 0, // first, n, kind, flags, two zero bytes
+        1, 0, 4, 2, 60, 0, 8, 0, // P, C, B, E
+        2, 1, 2, 1, 2, 0, 0, 0, // first, n, kind, flags, two zero bytes
     ];
-    let fuses = [0xD4, 0xC3, 0xB2, 0xA1, 0, 0, 0, 0, 0, 0, 0, 0, 0xF7, 0xE6, 5, 0];
+    let mut fuses = vec![0; 2 * 4 * 516];
+    fuses[..4].copy_from_slice(&[0xD4, 0xC3, 0xB2, 0xA1]);
+    fuses[2 * 4 * 516 - 4..].copy_from_slice(&[0xF7, 0xE6, 5, 0]);
     assert_eq!(drive.bytes(), [&[16, 0][..], &image, &fuses].concat());
     assert_eq!(drive.image(), image);
-    assert_eq!((drive.cells(), drive.marks()), (&[0xA1B2_C3D4, 0][..], &[0, 0x5_E6F7][..]));
+    assert_eq!((drive.cells()[0], drive.marks()[515]), (0xA1B2_C3D4, 0x5_E6F7));
 }
 
-/// No partition and no fuses, every field at its widest, and as many partitions
-/// and cells as can be.
+/// Document 01, "The map of the fuses": the fewest cells and the lowest bound, and as many
+/// partitions and cells as can be.
 #[test]
-fn map_keeps_no_rule_but_the_widths_of_its_fields() {
-    assert_eq!(read("0 0\n").bytes(), [8, 0, 0, 0, 0, 0, 0, 0, 8, 0]);
-    let expected = [
-        2, 0, 0, 0, 255, 255, 8, 0, // P, C, B, E
-        255, 255, 255, 255, 255, 255, 0, 0, // first, n, kind, flags, two zero bytes
-        3, 0, 1, 0, 3, 9, 0, 0,
-    ];
-    assert_eq!(read("0 65535\n65535 65535 255 255\n3 1 3 9\n").image(), expected);
-    let text = format!("65535 60\n{}cell 65534 1\n", "0 4 0 0\n".repeat(8190));
-    let bytes = read(&text).bytes();
-    assert_eq!(bytes.len(), 2 + 8 + 8 * 8190 + 2 * 4 * 65535);
-    // 8 + 8 * 8190 and 8190, low byte first.
-    assert_eq!(bytes[..4], [0xF8, 0xFF, 0xFE, 0x1F]);
+fn smallest_and_largest_drives_are_read() {
+    let smallest = read("4 33\n0 4 2 0\n").bytes();
+    assert_eq!(smallest[..18], [16, 0, 1, 0, 4, 0, 33, 0, 8, 0, 0, 0, 4, 0, 2, 0, 0, 0]);
+    assert_eq!(smallest[18..], [0; 2 * 4 * 4]);
+    let partitions: String = (0..16).map(|number| format!("{} 128 0 7\n", 128 * number)).collect();
+    let bytes = read(&format!("2048 64\n{partitions}cell 2047 1\n")).bytes();
+    assert_eq!(bytes.len(), 2 + 136 + 2 * 4 * 2048);
+    assert_eq!(bytes[..10], [136, 0, 16, 0, 0, 8, 64, 0, 8, 0]);
+    assert_eq!(bytes[130..138], [128, 7, 128, 0, 0, 7, 0, 0]);
 }
 
-/// The lines of a drive of four cells without a partition, its cells and marks.
+/// The lines of the fuses of a drive of four cells, its cells and marks.
 #[test]
 fn fuses_are_one_to_eight_digits_for_one_cell_or_a_run_in_any_order() {
     let digits = "cell 0 F\ncell 1 0000000f\ncell 2 89abCDEF\ncell 3 0\n";
@@ -70,7 +68,7 @@ fn fuses_are_one_to_eight_digits_for_one_cell_or_a_run_in_any_order() {
         ("mark 0 3\ncell 1-2 2\ncell 0 1\n", [1, 2, 2, 0], [3, 0, 0, 0]),
     ];
     for (lines, cells, marks) in rows {
-        let drive = read(&format!("4 60\n{lines}"));
+        let drive = read(&format!("4 60\n0 4 0 0\n{lines}"));
         assert_eq!((drive.cells(), drive.marks()), (&cells[..], &marks[..]), "{lines}");
     }
 }

@@ -1,5 +1,5 @@
-//! Document 01, and P1 of document 02: every call of the key block, what it answers, and
-//! the model as one key block among others.
+//! Document 01, and P1 and P2 of document 02: every call of the key block, what it answers,
+//! and the model as one key block among others.
 
 use crate::direct::{self, Answer, Command};
 use crate::erasure::{self, Erase, Erasure};
@@ -8,7 +8,7 @@ use crate::mailbox::request::Request;
 use crate::mailbox::{self, fields, Reply};
 use crate::refusal::Refusal;
 use crate::why::{self, Reason};
-use crate::{cache, reading};
+use crate::{cache, reading, text};
 use std::fmt;
 
 /// A call, with all that it is given besides what is lent.
@@ -22,6 +22,8 @@ pub enum Call {
     Why,
     /// "Active slot and key cache": what this place of the cache holds.
     Place(u32),
+    /// Document 02, P2: the image of the map that this text says.
+    WriteMap(Vec<u8>),
     /// "Direct commands"
     Direct(Command),
     /// "Erasing a partition"
@@ -32,8 +34,9 @@ pub enum Call {
     Restart,
 }
 
-/// What a call answered. The calls of document 01 that only read answer numbers, in the
-/// order of the C header: of a refusal all but its number are 0.
+/// What a call answered. The calls of document 01 that only read answer numbers, and so
+/// does the writing of a map, in the order of the C header: of a refusal all but its number
+/// are 0.
 #[derive(Clone, Copy, Debug, PartialEq, Eq)]
 pub enum Said {
     /// Refusal or 0, P, C, B, first cell, n, kind, flags.
@@ -44,6 +47,8 @@ pub enum Said {
     Reason(Result<Reason, u32>),
     /// 0 for an empty place or 1 for a held one, and its tag.
     Place([u64; 2]),
+    /// Refusal or 0, the image's bytes.
+    Written([u32; 2]),
     /// What a direct command answers.
     Answer(Answer),
     /// What an erasure answers.
@@ -73,6 +78,7 @@ impl KeyBlock for Model {
             Call::Why => return Said::Reason(why::why(&lent.drive)),
             Call::Place(number) => return Said::Place(lent.cache.told(*number)),
             Call::States => told(reading::list(lent), Said::Listing),
+            Call::WriteMap(text) => told(text::write(lent, text), Said::Written),
             Call::Direct(command) => told(direct::direct(lent, *command), Said::Answer),
             Call::Erase(erase) => told(erasure::erase(lent, *erase), Said::Erasure),
             Call::Mailbox(request) => told(mailbox::mailbox(lent, request), Said::Reply),
@@ -96,6 +102,7 @@ impl Call {
             Call::States => "states",
             Call::Why => "why",
             Call::Place(_) => "place",
+            Call::WriteMap(_) => "map",
             Call::Direct(Command::Read { .. }) => "READ",
             Call::Direct(Command::Write { .. }) => "WRITE",
             Call::Direct(Command::Zeroize { .. }) => "ZEROIZE",
@@ -106,11 +113,12 @@ impl Call {
         }
     }
 
-    /// "Refusal numbers": every refusal that applies.
+    /// "Refusal numbers": every refusal that applies, in the order in which they are checked.
     pub fn applying(&self, before: &Lent) -> Vec<Refusal> {
         match self {
             Call::Partition(number) => reading::applying_to_fields(&before.drive.image, *number),
             Call::States | Call::Why => reading::applying(&before.drive),
+            Call::WriteMap(text) => text::applying(text, before.output.len()),
             Call::Direct(command) => direct::applying(before, *command),
             Call::Erase(erase) => erasure::applying(before, *erase),
             Call::Mailbox(request) => mailbox::applying(before, request),
@@ -123,7 +131,8 @@ impl Said {
     /// The number that the call was refused with, if it was.
     pub fn refusal(self) -> Option<u32> {
         match self {
-            Said::Fields([number, ..]) | Said::Listing([number, _]) => Some(number),
+            Said::Fields([number, ..]) => Some(number),
+            Said::Listing([number, _]) | Said::Written([number, _]) => Some(number),
             Said::Reason(Err(number)) | Said::Answer(Answer::Refused(number)) => Some(number),
             Said::Erasure(Erasure::Refused { number, .. }) => Some(number),
             Said::Reply(Reply::Refused(number)) => Some(number),
@@ -140,6 +149,7 @@ impl fmt::Display for Call {
             Call::Mailbox(Request { code, bytes }) => {
                 write!(f, "{} (code {code:08X}), request {bytes:02X?}", self.name())
             }
+            Call::WriteMap(text) => write!(f, "map, text \"{}\"", text.escape_ascii()),
             _ => write!(f, "{self:X?}"),
         }
     }

@@ -1,5 +1,5 @@
-//! Document 01, "Burning and counting", "Active slot and key cache" and
-//! "Mailbox": everything that a caller lends to a call.
+//! Document 01, "Burning and counting", "Active slot and key cache" and "Mailbox", and P2
+//! of document 02: everything that a caller lends to a call.
 
 use crate::cache::Cache;
 use crate::drive::Drive;
@@ -25,4 +25,6 @@ pub struct Lent {
     pub states: [u32; PARTITIONS],
     /// "Burning and counting": where their numbers of short pairs are written.
     pub short_pairs: [u32; PARTITIONS],
+    /// Document 02, P2: the output buffer, where a map's image is written.
+    pub output: Vec<u8>,
 }

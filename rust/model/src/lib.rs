@@ -1,5 +1,5 @@
-//! A plain reading of document 01, and of P1 of document 02, written from the documents
-//! alone.
+//! A plain reading of document 01, and of P1 and P2 of document 02, written from the
+//! documents alone.
 //!
 //! Each file names the section or the request that it reads. Nothing here is
 //! tuned for speed, and nothing is shared with the programs it is compared to.
@@ -21,6 +21,7 @@ pub mod reading;
 pub mod refusal;
 pub mod slot;
 pub mod status;
+pub mod text;
 pub mod why;
 
 pub use cache::{Cache, PLACES};

@@ -1,4 +1,4 @@
-//! Document 01, "Refusal numbers": all fifteen.
+//! Document 01, "Refusal numbers": all fifteen, and those of document 02.
 
 /// "Refusal numbers"
 #[derive(Clone, Copy, Debug, PartialEq, Eq)]
@@ -35,6 +35,8 @@ pub enum Refusal {
     TagNotHeld = 14,
     /// "indicator short after its burn", the one that leaves something changed
     IndicatorShort = 15,
+    /// Document 02, P2: "text not of that form or output buffer too short"
+    BadText = 16,
 }
 
 impl Refusal {

@@ -1,8 +1,8 @@
-//! The numbers of document 01 that a caller needs, under the names of the C header.
+//! The numbers of documents 01 and 02 that a caller needs, under the names of the C header.
 
 /// The version of the header and of the archive: it grows by one whenever something
 /// changes for a caller (`docs/CHANGES.md`).
-pub const VERSION: u32 = 6;
+pub const VERSION: u32 = 7;
 /// The bytes of the engine block.
 pub const BLOCK_BYTES: usize = 128;
 /// The bytes of the shortest response buffer that is accepted.
@@ -13,6 +13,9 @@ pub const CONTEXT_WORDS: usize = 32;
 pub const PLACES: usize = 16;
 /// The most partitions that a map has.
 pub const PARTITIONS: usize = 16;
+/// The bytes of the longest image that [`write_map`](crate::write_map) writes: 8, and 8
+/// for each of [`PARTITIONS`].
+pub const LONGEST_IMAGE: usize = 8 + 8 * PARTITIONS;
 /// The first short cell in FERS's response, where no pair is short.
 pub const NO_CELL: u32 = 0xFFFF_FFFF;
 /// The active slot's partition in FSTA's response, where no slot is active.
@@ -85,4 +88,6 @@ pub mod refusal {
     pub const TAG_NOT_HELD: u32 = 14;
     /// The indicator is short after its burn, and stays burned.
     pub const INDICATOR_SHORT: u32 = 15;
+    /// The map's text has not its form, or the buffer for the image is too short.
+    pub const TEXT: u32 = 16;
 }

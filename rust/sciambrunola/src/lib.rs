@@ -1,12 +1,12 @@
-//! The proved key block of a drive controller: the map of its fuses, the states
-//! of its partitions, why it offers no key, direct commands on its fuses, the
-//! erasure of a partition, the key cache of 16 places, and the mailbox.
+//! The proved key block of a drive controller: the map of its fuses, read and
+//! written, the states of its partitions, why it offers no key, direct commands on
+//! its fuses, the erasure of a partition, the key cache of 16 places, and the mailbox.
 //!
 //! Every function answers for any bytes and any lengths, and a refusal changes
 //! nothing that is lent, save that 15 leaves the indicator burned. The refusal
-//! numbers (see [`refusal`]), the fields of the requests and the lengths are those
-//! of document 01; `include/sciambrunola.h` has them in short. The work itself is done by the
-//! proved archive; here are only the types that make its calls safe.
+//! numbers (see [`refusal`]), the fields of the requests, the text of a map and the
+//! lengths are those of documents 01 and 02; `include/sciambrunola.h` has them in short. The
+//! work itself is done by the proved archive; here are only the types that make its calls safe.
 //!
 //! It has no memory of its own: what it keeps between calls is in a [`Context`],
 //! which is the caller's.
@@ -32,7 +32,7 @@ mod states;
 pub use answer::{Answer, Erasure, Order, Reply};
 pub use constants::{code, flag, kind, refusal};
 pub use constants::{BLOCK_BYTES, CONTEXT_WORDS, LEAST_RESPONSE, PARTITIONS, PLACES};
-pub use constants::{NO_CELL, NO_SLOT, VERSION};
+pub use constants::{LONGEST_IMAGE, NO_CELL, NO_SLOT, VERSION};
 pub use context::Context;
 pub use fields::Fields;
 pub use reason::Reason;
@@ -65,6 +65,26 @@ pub enum Command {
 /// those of the map's header.
 pub fn partition(image: &[u8], number: u32) -> Fields {
     Fields::from_raw(raw::partition(image, number))
+}
+
+/// Writes the map that a text says to the front of `image`, and answers how many bytes
+/// it has; or the refusal's number, in this order: 16 ([`refusal::TEXT`]) where the text
+/// has not its form, or `image` has less than 8 bytes and 8 more for each partition's
+/// line; 1 ([`refusal::MAP`]) where the map would break a rule.
+///
+/// The text has a first line with C and B, then a line for each partition: first cell,
+/// cells, kind and flags. All are decimal numbers without leading zeros, at most 65,535,
+/// with a single space between two of them, and each line ends with a line feed, the
+/// last one too: `"12 60\n0 6 0 7\n6 6 1 0\n"`. With [`LONGEST_IMAGE`] bytes there is
+/// room for any map. The entries begin at byte 8.
+///
+/// A kind or flags over 255, no partition and more than [`PARTITIONS`] are 1 where there
+/// is room. A refusal writes nothing, and nothing is written past the image.
+pub fn write_map(text: &[u8], image: &mut [u8]) -> Result<usize, u32> {
+    match raw::write_map(text, image) {
+        raw::Written { refusal: 0, bytes } => Ok(bytes as usize),
+        raw::Written { refusal, .. } => Err(refusal),
+    }
 }
 
 /// The state and the short pairs of every partition of the map.

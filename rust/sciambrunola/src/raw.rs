@@ -5,96 +5,12 @@
 //! valid for its count, and a buffer that a call may write is borrowed mutably,
 //! so it overlaps no other. Shared slices may be the same or overlap.
 
+mod answers;
+
+pub(crate) use answers::*;
+
 use crate::constants::PARTITIONS;
 use crate::context::Context;
-
-pub(crate) const STATE_ERASED: u32 = 0;
-pub(crate) const STATE_TORN: u32 = 1;
-pub(crate) const STATE_BLANK: u32 = 2;
-
-pub(crate) const REASON_AVAILABLE: u32 = 0;
-pub(crate) const REASON_NO_SLOT: u32 = 1;
-pub(crate) const REASON_ALL_ERASED: u32 = 2;
-pub(crate) const REASON_BLANK: u32 = 3;
-pub(crate) const REASON_TORN: u32 = 4;
-
-pub(crate) const WORD: u32 = 0;
-pub(crate) const DONE: u32 = 1;
-pub(crate) const WITHHELD: u32 = 2;
-
-pub(crate) const ENDED: u32 = 0;
-pub(crate) const CUT: u32 = 1;
-
-pub(crate) const PLACE_EMPTY: u32 = 0;
-
-pub(crate) const CLEAR: u32 = 1;
-pub(crate) const LOAD: u32 = 2;
-pub(crate) const UNLOAD: u32 = 3;
-
-/// `sci_fields`
-#[repr(C)]
-pub(crate) struct Fields {
-    pub(crate) refusal: u32,
-    pub(crate) partitions: u32,
-    pub(crate) cells: u32,
-    pub(crate) bound: u32,
-    pub(crate) first: u32,
-    pub(crate) length: u32,
-    pub(crate) kind: u32,
-    pub(crate) flags: u32,
-}
-
-/// `sci_listing`
-#[repr(C)]
-pub(crate) struct Listing {
-    pub(crate) refusal: u32,
-    pub(crate) partitions: u32,
-}
-
-/// `sci_reason`
-#[repr(C)]
-pub(crate) struct Reason {
-    pub(crate) kind: u32,
-    pub(crate) refusal: u32,
-    pub(crate) partition: u32,
-    pub(crate) cell: u32,
-    pub(crate) ones: u32,
-}
-
-/// `sci_place`
-#[repr(C)]
-pub(crate) struct Place {
-    pub(crate) kind: u32,
-    pub(crate) tag: u64,
-}
-
-/// `sci_answer`
-#[repr(C)]
-pub(crate) struct Answer {
-    pub(crate) kind: u32,
-    pub(crate) refusal: u32,
-    pub(crate) word: u64,
-}
-
-/// `sci_erasure`
-#[repr(C)]
-pub(crate) struct Erasure {
-    pub(crate) kind: u32,
-    pub(crate) refusal: u32,
-    pub(crate) short_pairs: u32,
-    pub(crate) first_short: u32,
-    pub(crate) burns: u32,
-}
-
-/// `sci_reply`
-#[repr(C)]
-pub(crate) struct Reply {
-    pub(crate) refusal: u32,
-    pub(crate) length: u32,
-    pub(crate) order: u32,
-    pub(crate) place: u32,
-    pub(crate) timeout: u32,
-}
 
 /// A drive as most functions are lent it, with cells and a context that they may
 /// change.
@@ -152,6 +68,13 @@ lent_a_drive! {
 extern "C" {
     fn sci_partition(image: *const u8, image_bytes: usize, partition: u32) -> Fields;
 
+    fn sci_write_map(
+        text: *const u8,
+        text_bytes: usize,
+        image: *mut u8,
+        image_bytes: usize,
+    ) -> Written;
+
     fn sci_states(
         image: *const u8,
         image_bytes: usize,
@@ -203,6 +126,13 @@ macro_rules! call {
 pub(crate) fn partition(image: &[u8], number: u32) -> Fields {
     // SAFETY: pointer and count are those of a borrowed slice, which is only read.
     unsafe { sci_partition(image.as_ptr(), image.len(), number) }
+}
+
+pub(crate) fn write_map(text: &[u8], image: &mut [u8]) -> Written {
+    let (from, to) = (text.as_ptr(), image.as_mut_ptr());
+    // SAFETY: every pointer and count is that of a borrowed slice. The text is only read;
+    // the image is borrowed mutably, so it overlaps nothing.
+    unsafe { sci_write_map(from, text.len(), to, image.len()) }
 }
 
 pub(crate) fn states(

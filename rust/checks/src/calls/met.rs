@@ -10,8 +10,9 @@ use model::{
     Said, Size, Word, LIFE_CYCLE,
 };
 
-/// The refusals that can apply to one call together with a higher one.
-const PAIRS: [(u32, &[u32]); 11] = [
+/// The refusals that can apply to one call together with another, which is a higher one but for
+/// that of a map that is written.
+const PAIRS: [(u32, &[u32]); 12] = [
     (1, &[2, 3, 4, 5, 6, 12, 13, 14]),
     (2, &[3, 4, 5, 6, 7, 8, 9, 10, 11, 12, 13, 14, 15]),
     (3, &[5, 6]),
@@ -23,6 +24,7 @@ const PAIRS: [(u32, &[u32]); 11] = [
     (10, &[15]),
     (11, &[12, 13]),
     (12, &[13]),
+    (16, &[1]),
 ];
 
 /// Whether a WRITE of a value may not touch a word.

@@ -4,11 +4,12 @@ use model::{Answer, Call, Erasure, Order, Reason, Reply, Said};
 
 /// What each call can come to when it is carried out, and its refusals. The states
 /// come to any number of partitions.
-const OUTCOMES: [(&str, &[&str], &[u32]); 16] = [
+const OUTCOMES: [(&str, &[&str], &[u32]); 17] = [
     ("fields", &KINDS_AND_FLAGS, &[1, 7]),
     ("states", &[], &[1, 2]),
     ("why", &["available", "no slot", "all erased", "blank", "torn"], &[1, 2]),
     ("place", &["empty", "held"], &[]),
+    ("map", &["written"], &[16, 1]),
     ("READ", &["word"], &[1, 2, 7, 8]),
     ("WRITE", &["word", "done"], &[1, 2, 7, 8, 9, 10]),
     ("ZEROIZE", &["word", "withheld"], &[1, 2, 7, 8, 10]),
@@ -55,6 +56,7 @@ fn outcome(said: Said) -> String {
         Said::Reason(_) => "available",
         Said::Place([0, _]) => "empty",
         Said::Place(_) => "held",
+        Said::Written(_) => "written",
         Said::Answer(Answer::Word(_)) => "word",
         Said::Answer(Answer::Done) => "done",
         Said::Answer(_) => "withheld",

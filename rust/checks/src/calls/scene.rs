@@ -3,6 +3,7 @@
 
 use super::{commands, requests};
 use crate::random::Random;
+use crate::texts::{self, Text};
 use crate::{drives, maps};
 use model::direct::Command::{Read, Zeroize};
 use model::{Cache, Call, Drive, Erase, Lent, Mail, PARTITIONS, PLACES};
@@ -10,20 +11,20 @@ use model::{Cache, Call, Drive, Erase, Lent, Mail, PARTITIONS, PLACES};
 const SEED: u64 = 0x5EED_0C11_0016_0128;
 const TAGS: usize = 24;
 
-/// How often each call is made, in parts of the sum: fields, states, why, place; READ,
+/// How often each call is made, in parts of the sum: fields, states, why, place, map; READ,
 /// WRITE, ZEROIZE; erasure, cut erasure, restart; then the mailbox commands in the
 /// order of the document's table, CLKC, KLOD, KUNL, FERS, FSTA.
-type Mood = [usize; 15];
+type Mood = [usize; 16];
 
 const MOODS: [Mood; 4] = [
     // Many loads, which fill the cache.
-    [4, 4, 3, 2, 4, 8, 6, 1, 1, 1, 1, 40, 12, 1, 5],
+    [4, 4, 3, 2, 2, 4, 8, 6, 1, 1, 1, 1, 40, 12, 1, 5],
     // Many burns of single words.
-    [4, 4, 3, 2, 12, 40, 16, 1, 1, 1, 4, 4, 4, 1, 8],
+    [4, 4, 3, 2, 2, 12, 40, 16, 1, 1, 1, 4, 4, 4, 1, 8],
     // Some of each.
-    [4, 4, 3, 2, 10, 20, 12, 2, 2, 2, 2, 20, 12, 2, 8],
+    [4, 4, 3, 2, 2, 10, 20, 12, 2, 2, 2, 2, 20, 12, 2, 8],
     // Many erasures, with loads between them.
-    [4, 4, 3, 2, 4, 8, 6, 10, 30, 6, 1, 10, 4, 20, 5],
+    [4, 4, 3, 2, 2, 4, 8, 6, 10, 30, 6, 1, 10, 4, 20, 5],
 ];
 
 /// A sequence of calls, made again by its number alone.
@@ -89,33 +90,39 @@ impl Scene {
             1 => Call::States,
             2 => Call::Why,
             3 => Call::Place(mostly_below(random, PLACES)),
-            4 => Call::Direct(Read { cell: commands::cell(random, drive) }),
-            5 => Call::Direct(commands::write(random, drive)),
-            6 => Call::Direct(Zeroize { cell: commands::cell(random, drive) }),
-            chosen @ (7 | 8) => {
+            4 => Call::WriteMap(Text::any(random).bytes),
+            5 => Call::Direct(Read { cell: commands::cell(random, drive) }),
+            6 => Call::Direct(commands::write(random, drive)),
+            7 => Call::Direct(Zeroize { cell: commands::cell(random, drive) }),
+            chosen @ (8 | 9) => {
                 let partition = commands::partition(random, drive);
-                let cut = (chosen == 8).then(|| commands::cut_of(random, drive, partition));
+                let cut = (chosen == 9).then(|| commands::cut_of(random, drive, partition));
                 Call::Erase(Erase { partition, cut })
             }
-            9 => Call::Restart,
+            10 => Call::Restart,
             mailbox => {
                 let partition = commands::partition(random, drive);
-                let command = Mail::ALL[mailbox - 10];
+                let command = Mail::ALL[mailbox - 11];
                 Call::Mailbox(requests::generated(random, command, &self.tags, partition))
             }
         }
     }
 
     /// What a call is lent. The mailbox alone has a block and a response buffer,
-    /// and the states alone have arrays; all hold anything, so that whatever is
-    /// written, or should not have been, shows.
+    /// the states alone have arrays, and a map that is written has its buffer; all hold
+    /// anything, so that whatever is written, or should not have been, shows.
     fn lent(&mut self, call: &Call) -> Lent {
-        let mut lent = Lent { block: vec![], response: vec![], ..self.lent.clone() };
+        let (block, response, output) = (vec![], vec![], vec![]);
+        let mut lent = Lent { block, response, output, ..self.lent.clone() };
         match call {
             Call::Mailbox(_) => (lent.block, lent.response) = requests::buffers(&mut self.random),
             Call::States => {
                 let mut array = || [(); PARTITIONS].map(|()| self.random.cell());
                 (lent.states, lent.short_pairs) = (array(), array());
+            }
+            Call::WriteMap(text) => {
+                let room = texts::room(&mut self.random, text).1;
+                lent.output = self.random.bytes(room);
             }
             _ => {}
         }

@@ -1,7 +1,7 @@
 //! Makes the status program's input from a drive's text: reads the text from
 //! standard input or from the file that is named, and writes the bytes to
-//! standard output. On a mistake it writes none and says what is wrong on
-//! standard error.
+//! standard output. On a mistake, a map that the library refuses included, it
+//! writes none and says the line and what is wrong on standard error.
 
 use drives::Drive;
 use std::error::Error;

@@ -1,0 +1,123 @@
+-- `plan::write_map` meets its contract: each refusal is that of the first test that applies, and the image is judged last. Assumes nothing.
+use Prim.Native.Nat.{_+_, _*_, _/_}
+use mathlib.Core.Path.{_≡_, sym, _∙_}
+use native.Mathlib.Omega.{arith}
+use borrow.Author.Tests.{not-true, not-false}
+use borrow.Author.Needs.{needs}
+use Rattle.plan.specs.Answers.{no-form, refused-form, found-short, found-many, found-large, Found, found-image}
+use Rattle.plan.specs.Steps.{readingOf}
+use Rattle.plan.specs.declared.Reading.the-variants.{Whole}
+use Rattle.plan.proofs.write_map.Statement.{statement}
+use Rattle.plan.proofs.write_map.Tie as tie
+
+slice-aggregate-read-numbers : tie.Need-slice-aggregate-read-numbers
+slice-aggregate-read-numbers c = search needs
+
+read-numbers-requires : tie.Need-read-numbers-requires
+read-numbers-requires c κs = search needs
+
+enum-known-count : tie.Need-enum-known-count
+enum-known-count c = search needs
+
+enum-told : tie.Need-enum-told
+enum-told c = search needs
+
+returns : tie.Need-returns
+returns c =
+    let read = c .before .before .before in
+    refused-form _ _ (no-form _ (sym (c .enum-told .given .1) ∙ read .read-numbers .ensures .0))
+
+-- the text has whole lines of so many numbers
+told : (c : tie.After-count) → Whole (c .count .given .0 .0) ≡ readingOf (c .before .before .before .before .before .before .before .args .text .now)
+told c = sym (c .count .given .1) ∙ c .before .before .before .read-numbers .ensures .0
+
+is-short-requires : tie.Need-is-short-requires
+is-short-requires c κs = search needs
+
+returns-2 : tie.Need-returns-2
+returns-2 c =
+    let count = c .before .before .before in
+    found-short _ _ _ (told count) (sym (c .before .is-short .ensures) ∙ c .if1 .taken)
+
+returns-3 : tie.Need-returns-3
+returns-3 c =
+    let short = c .before .before in
+    found-many _ _ _ (told (short .before .before)) (sym (short .is-short .ensures) ∙ c .before .if1 .left) (c .if2 .taken)
+
+slice-aggregate-put-image : tie.Need-slice-aggregate-put-image
+slice-aggregate-put-image c = search needs
+
+slice-aggregate-put-image-2 : tie.Need-slice-aggregate-put-image-2
+slice-aggregate-put-image-2 c = search needs
+
+put-image-requires : tie.Need-put-image-requires
+put-image-requires c κs = search needs
+
+returns-4 : tie.Need-returns-4
+returns-4 c =
+    let image = c .before .before in
+    let few = image .before .before .before in
+    let short = few .before .before in
+    let count = short .before .before in
+    found-large _ _ _ (told count) (sym (short .is-short .ensures) ∙ few .before .if1 .left) _ (count .before .before .before .read-numbers .ensures .1) (few .if2 .left)
+    _ _ _ (image .put-image .ensures) (not-true _ (c .if3 .taken))
+
+mul-image : tie.Need-mul-image
+mul-image c = search needs
+
+add-image : tie.Need-add-image
+add-image c = search needs
+
+array-share-prefix-image : tie.Need-array-share-prefix-image
+array-share-prefix-image c = search needs
+
+-- the image is written
+found : (c : tie.Else3) → let start = c .before .before .before .before .before .before .before .before .before .before .before .before .before .before .before .before in
+    Found (start .args .text .now) (start .args .out .now) (8 + 8 * (c .before .before .before .before .before .before .before .before .before .count .given .0 .0 / 4)) (c .before .before .put-image .last .0)
+found c =
+    let image = c .before .before in
+    let few = image .before .before .before in
+    let short = few .before .before in
+    let count = short .before .before in
+    found-image _ _ _ (told count) (sym (short .is-short .ensures) ∙ few .before .if1 .left) _ (count .before .before .before .read-numbers .ensures .1) (few .if2 .left)
+    _ _ _ (image .put-image .ensures) (not-false _ (c .if3 .left))
+
+slice-aggregate-write-good : tie.Need-slice-aggregate-write-good
+slice-aggregate-write-good c = sym (found (c .before) .long)
+
+write-good-requires : tie.Need-write-good-requires
+write-good-requires c κs =
+    let f = found (c .before .before) in
+    (omega (arith, f .long, f .room), omega (arith, f .long, f .most))
+
+same-length : tie.Need-same-length
+same-length c = search needs
+
+returns-5 : tie.Need-returns-5
+returns-5 c =
+    let good = c .before .before in
+    found (good .before .before .before) .answers (good .write-good .ensures)
+
+pub write-map-spec : {M : Type 1} → statement M
+write-map-spec =
+    tie.close
+    (tie.spec
+    slice-aggregate-read-numbers
+    read-numbers-requires
+    enum-known-count
+    enum-told
+    returns
+    is-short-requires
+    returns-2
+    returns-3
+    slice-aggregate-put-image
+    slice-aggregate-put-image-2
+    put-image-requires
+    returns-4
+    mul-image
+    add-image
+    array-share-prefix-image
+    slice-aggregate-write-good
+    write-good-requires
+    same-length
+    returns-5)

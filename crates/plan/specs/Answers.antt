@@ -1,0 +1,137 @@
+-- What is answered, by what the code has found: which test gives the number, and the plan by the numbers that were kept. Assumes nothing.
+use Prim.Native.Nat.{ℕ, _+_, _*_, _/_, _%_, _≤_, _<_}
+use mathlib.Core.Path.{_≡_, refl, sym, ap, subst, _∙_}
+use mathlib.Core.Logic.{⊎-elim}
+use mathlib.Core.Bool.{Bool, true, false, cond, not}
+use mathlib.Core.List.{List, [], _∷_}
+use native.Mathlib.Omega.{arith}
+use lib.ListN.{length, take}
+use lib.Seq.{take-all, take-at}
+use lib.Dec.{eqb, ltb}
+use borrow.Author.Tests.{eqb-true, ltb-false}
+use Rattle.laws.specs.Tests.{decided}
+use Rattle.laws.specs.Refusals.{Past, testAt, refused-at, GivenFirst, given-first}
+use Rattle.context.specs.State.{Outcome, refusing}
+use Rattle.map.specs.Map.{mapGood}
+use Rattle.plan.specs.declared.Answer.{Answer}
+use Rattle.plan.specs.declared.Answer.the-variants.{Refused}
+use Rattle.plan.specs.declared.Reading.{Reading}
+use Rattle.plan.specs.declared.Reading.the-variants.{Whole, Formless}
+use Rattle.plan.specs.Form.{Plan}
+use Rattle.plan.specs.Reading.{Progress, between, within, broken, readOf, numbersIn, whole, planBy, hasForm, planOf}
+use Rattle.plan.specs.Steps.{Keeps, readingOf}
+use Rattle.plan.specs.Writing.{imageOf, roomFor, writingTests, inFront, writingOf, judgedOf}
+use Rattle.plan.specs.Images.{entries-count, Imaged}
+use Rattle.plan.specs.Fields.{image-length, too-many, too-large}
+
+-- ---- what was read
+
+module _ (t : List ℕ) where
+  told-formless : (b : Bool) (count : ℕ) → Formless ≡ cond b (Whole count) Formless → b ≡ false
+  told-formless true count e = absurd (let z : _≡_ {A = ℕ} 0 1 = cc in omega arith)
+  told-formless false count e = refl
+
+  told-whole : (b : Bool) (n count : ℕ) → Whole n ≡ cond b (Whole count) Formless → (b ≡ true) × (n ≡ count)
+  told-whole true n count e = (refl, cc)
+  told-whole false n count e = absurd (let z : _≡_ {A = ℕ} 0 1 = cc in omega arith)
+
+  pub no-form : Formless ≡ readingOf t → hasForm t ≡ false
+  unfolding hasForm
+  no-form e = told-formless (whole (readOf t)) _ e
+
+  -- whole lines: so many numbers
+  count-rest : (s : Progress) → whole s ≡ true → length (numbersIn s) % 4 ≡ 2
+  count-rest (between numbers) e = eqb-true _ _ e
+  count-rest (within numbers value) e = absurd (let z : _≡_ {A = ℕ} 0 1 = cc in omega arith)
+  count-rest broken e = absurd (let z : _≡_ {A = ℕ} 0 1 = cc in omega arith)
+
+  module _ (count : ℕ) (e : Whole count ≡ readingOf t) where
+    pub has-form : hasForm t ≡ true
+    unfolding hasForm
+    has-form = told-whole (whole (readOf t)) count _ e .0
+
+    counted : count ≡ length (numbersIn (readOf t))
+    counted = told-whole (whole (readOf t)) count _ e .1
+
+    pub count-is : count ≡ 2 + 4 * (count / 4)
+    count-is = omega (arith, counted, count-rest (readOf t) (told-whole (whole (readOf t)) count _ e .0))
+
+    pub lines-told : length (planOf t .entries) ≡ count / 4
+    unfolding planOf
+    lines-told = entries-count (length (numbersIn (readOf t)) / 4) _ ∙ rw counted
+
+    -- where all numbers were kept, they are the text's
+    pub plan-kept : (numbers : List ℕ) → Keeps (readOf t) numbers → count ≤ 66 → planOf t ≡ planBy (take (2 + 4 * (count / 4)) numbers)
+    unfolding planOf
+    plan-kept numbers k l =
+        let all : take 66 (numbersIn (readOf t)) ≡ numbersIn (readOf t) = take-all 66 (numbersIn (readOf t)) (omega (arith, counted)) in
+        ap planBy (sym (k ∙ all) ∙ ap (λ (n : ℕ). take n numbers) (sym counted ∙ count-is))
+
+-- ---- what is answered
+
+module _ (t before : List ℕ) where
+  -- "Refusals, in this order"
+  pub writing-first : GivenFirst (refusing Refused before) (writingTests t (length before)) (inFront (imageOf (planOf t)) before) (writingOf t before)
+  unfolding writingOf
+  writing-first = given-first (refusing Refused before) (inFront (imageOf (planOf t)) before) (writingTests t (length before))
+
+  pub refused-form : hasForm t ≡ false → refusing Refused before 16 ≡ writingOf t before
+  unfolding writingOf
+  refused-form e = rw e
+
+  module _ (form : hasForm t ≡ true) where
+    pub refused-room : ltb (length before) (roomFor (planOf t)) ≡ true → refusing Refused before 16 ≡ writingOf t before
+    unfolding writingOf
+    refused-room e = rw (form, e)
+
+    -- with the form and the room, the image decides
+    pub judged : ltb (length before) (roomFor (planOf t)) ≡ false → judgedOf (imageOf (planOf t)) before ≡ writingOf t before
+    unfolding writingOf
+    judged e = rw (form, e)
+
+    pub refused-map : ltb (length before) (roomFor (planOf t)) ≡ false → mapGood (imageOf (planOf t)) ≡ false → refusing Refused before 1 ≡ writingOf t before
+    refused-map e m = rw (← judged e, m)
+
+-- an image of so many bytes was found: there is room for it, and as it is judged the text is answered
+pub record Found (t before : List ℕ) (size : ℕ) (image : List ℕ) : Type 0 where
+  pub long : length (take size image) ≡ size
+  pub room : size ≤ length before
+  pub most : size ≤ 136
+  pub answers : {o : Outcome Answer (List ℕ)} → o ≡ judgedOf (take size image) before → o ≡ writingOf t before
+
+-- the same by what the code has found: so many numbers, the room, and those that were kept
+module _ (t before : List ℕ) (count : ℕ) (e : Whole count ≡ readingOf t) where
+  pub found-short : ltb (length before) (8 + 8 * (count / 4)) ≡ true → refusing Refused before 16 ≡ writingOf t before
+  found-short s = refused-room t before (has-form t count e) (rw (lines-told t count e) s)
+
+  module _ (s : ltb (length before) (8 + 8 * (count / 4)) ≡ false) where
+    room : ltb (length before) (roomFor (planOf t)) ≡ false
+    room = rw (lines-told t count e) s
+
+    pub found-many : 66 < count → refusing Refused before 1 ≡ writingOf t before
+    found-many l =
+        refused-map t before (has-form t count e) room (too-many (planOf t) (omega (arith, lines-told t count e, count-is t count e)))
+
+    -- the numbers that were kept, and what was written of their image
+    module _ (numbers : List ℕ) (k : Keeps (readOf t) numbers) (l : count ≤ 66) (zeros image : List ℕ) (r : Bool)
+        (i : Imaged (planBy (take (2 + 4 * (count / 4)) numbers)) zeros image r) where
+      is : planOf t ≡ planBy (take (2 + 4 * (count / 4)) numbers)
+      is = plan-kept t count e numbers k l
+
+      pub found-large : r ≡ false → refusing Refused before 1 ≡ writingOf t before
+      found-large n = refused-map t before (has-form t count e) room (rw is (too-large _ (sym (i .0) ∙ n)))
+
+      module _ (y : r ≡ true) where
+        long : length (imageOf (planOf t)) ≡ 8 + 8 * (count / 4)
+        long = image-length (planOf t) ∙ rw (lines-told t count e)
+
+        written : take (8 + 8 * (count / 4)) image ≡ imageOf (planOf t)
+        written = rw (i .1 y .bytes, ← is) (take-at (imageOf (planOf t)) _ (8 + 8 * (count / 4)) long)
+
+        pub found-image : Found t before (8 + 8 * (count / 4)) image
+        found-image = record {
+          long = ap length written ∙ long;
+          room = ltb-false _ _ s;
+          most = omega (arith, l);
+          answers = λ {o} q. q ∙ ap (λ (x : List ℕ). judgedOf x before) written ∙ judged t before (has-form t count e) room;
+        }
