@@ -10,8 +10,8 @@ use native.Mathlib.Numerals.{add-one}
 use native.Mathlib.Nat.{not-suc-le-zero, eq-or-lt-of-le, le-of-suc-le-suc}
 use lib.ListN.{length}
 use lib.Dec.{eqb}
-use borrow.Author.Tests.{leb-true, eqb-true, le-ltb, ne-eqb}
-use Rattle.laws.specs.Tests.{and, implies, not-both, every-at}
+use borrow.Author.Tests.{leb-true, eqb-true, le-ltb, le-leb, eq-eqb, ne-eqb}
+use Rattle.laws.specs.Tests.{and, implies, not-both, every, every-at}
 use Rattle.laws.specs.Below.{allBelow, all-at}
 use Rattle.endian.specs.Endian.{byteAt, u16At}
 use Rattle.map.specs.declared.Header.{Header}
@@ -82,6 +82,14 @@ header-rules h len g =
       long = eqb-true _ _ (rule 8);
     }
 
+-- and back
+pub rules-header : (h : Header) (len : ℕ) → HeaderRules h len → headerGood h len ≡ true
+unfolding headerGood every
+rules-header h len r =
+    rw (le-leb 1 (h .partitions) (r .partitions-least), le-leb (h .partitions) 16 (r .partitions-most), le-leb 4 (h .cells) (r .cells-least),
+    le-leb (h .cells) 2048 (r .cells-most), le-leb 33 (h .bound) (r .bound-least), le-leb (h .bound) 64 (r .bound-most),
+    le-leb 8 (h .offset) (r .offset-least), le-leb (h .offset) 128 (r .offset-most)) (eq-eqb len (h .offset + 8 * h .partitions) (r .long))
+
 pub record EntryRules (before cells : ℕ) (x : Entry) : Type 0 where
   pub kind-known : x .kind ≤ 2
   pub flags-known : x .flags ≤ 7
@@ -116,7 +124,7 @@ entry-rules before cells x spare g =
       slot-secret = λ z. both z .1;
     }
 
-map-parts : (s : List ℕ) → mapGood s ≡ true → (headerGood (headerOf s) (length s) ≡ true) × (allBelow (placeGood s) (headerOf s .partitions) ≡ true)
+pub map-parts : (s : List ℕ) → mapGood s ≡ true → (headerGood (headerOf s) (length s) ≡ true) × (allBelow (placeGood s) (headerOf s .partitions) ≡ true)
 unfolding mapGood
 map-parts s g = let r = and _ _ g in (and _ _ (r .0) .0, r .1)
 

@@ -1,26 +1,23 @@
 -- What is answered, by what the code has found: which test gives the number, and the plan by the numbers that were kept. Assumes nothing.
 use Prim.Native.Nat.{ℕ, _+_, _*_, _/_, _%_, _≤_, _<_}
-use mathlib.Core.Path.{_≡_, refl, sym, ap, subst, _∙_}
-use mathlib.Core.Logic.{⊎-elim}
-use mathlib.Core.Bool.{Bool, true, false, cond, not}
-use mathlib.Core.List.{List, [], _∷_}
+use mathlib.Core.Path.{_≡_, refl, sym, ap, _∙_}
+use mathlib.Core.Bool.{Bool, true, false, cond}
+use mathlib.Core.List.{List}
 use native.Mathlib.Omega.{arith}
+use native.Mathlib.Nat.{zero-add}
 use lib.ListN.{length, take}
 use lib.Seq.{take-all, take-at}
-use lib.Dec.{eqb, ltb}
+use lib.Dec.{ltb}
 use borrow.Author.Tests.{eqb-true, ltb-false}
-use Rattle.laws.specs.Tests.{decided}
-use Rattle.laws.specs.Refusals.{Past, testAt, refused-at, GivenFirst, given-first}
-use Rattle.context.specs.State.{Outcome, refusing}
+use Rattle.laws.specs.Refusals.{GivenFirst, given-first}
+use Rattle.context.specs.State.{outcome, refusing}
 use Rattle.map.specs.Map.{mapGood}
-use Rattle.plan.specs.declared.Answer.{Answer}
-use Rattle.plan.specs.declared.Answer.the-variants.{Refused}
-use Rattle.plan.specs.declared.Reading.{Reading}
+use Rattle.plan.specs.declared.Answer.the-variants.{Written, Refused}
 use Rattle.plan.specs.declared.Reading.the-variants.{Whole, Formless}
 use Rattle.plan.specs.Form.{Plan}
 use Rattle.plan.specs.Reading.{Progress, between, within, broken, readOf, numbersIn, whole, planBy, hasForm, planOf}
 use Rattle.plan.specs.Steps.{Keeps, readingOf}
-use Rattle.plan.specs.Writing.{imageOf, roomFor, writingTests, inFront, writingOf, judgedOf}
+use Rattle.plan.specs.Writing.{imageOf, roomFor, writingTests, inFront, writingOf}
 use Rattle.plan.specs.Images.{entries-count, Imaged}
 use Rattle.plan.specs.Fields.{image-length, too-many, too-large}
 
@@ -84,20 +81,21 @@ module _ (t before : List ℕ) where
     unfolding writingOf
     refused-room e = rw (form, e)
 
-    -- with the form and the room, the image decides
-    pub judged : ltb (length before) (roomFor (planOf t)) ≡ false → judgedOf (imageOf (planOf t)) before ≡ writingOf t before
-    unfolding writingOf
-    judged e = rw (form, e)
+    module _ (room : ltb (length before) (roomFor (planOf t)) ≡ false) where
+      pub refused-map : mapGood (imageOf (planOf t)) ≡ false → refusing Refused before 1 ≡ writingOf t before
+      unfolding writingOf
+      refused-map m = rw (form, room, m)
 
-    pub refused-map : ltb (length before) (roomFor (planOf t)) ≡ false → mapGood (imageOf (planOf t)) ≡ false → refusing Refused before 1 ≡ writingOf t before
-    refused-map e m = rw (← judged e, m)
+      pub accepted : mapGood (imageOf (planOf t)) ≡ true → inFront (imageOf (planOf t)) before ≡ writingOf t before
+      unfolding writingOf
+      accepted m = rw (form, room, m)
 
--- an image of so many bytes was found: there is room for it, and as it is judged the text is answered
-pub record Found (t before : List ℕ) (size : ℕ) (image : List ℕ) : Type 0 where
-  pub long : length (take size image) ≡ size
+-- the image of a plan, of so many bytes, was found: there is room for it, and what is answered once it is judged and written again
+pub record Found (t before : List ℕ) (plan : Plan) (size : ℕ) (image : List ℕ) : Type 0 where
+  pub long : length image ≡ size
   pub room : size ≤ length before
-  pub most : size ≤ 136
-  pub answers : {o : Outcome Answer (List ℕ)} → o ≡ judgedOf (take size image) before → o ≡ writingOf t before
+  pub bad : mapGood image ≡ false → refusing Refused before 1 ≡ writingOf t before
+  pub good : mapGood image ≡ true → {after : List ℕ} {again : Bool} → Imaged plan before after again → outcome (Written size) after ≡ writingOf t before
 
 -- the same by what the code has found: so many numbers, the room, and those that were kept
 module _ (t before : List ℕ) (count : ℕ) (e : Whole count ≡ readingOf t) where
@@ -115,7 +113,10 @@ module _ (t before : List ℕ) (count : ℕ) (e : Whole count ≡ readingOf t) w
     -- the numbers that were kept, and what was written of their image
     module _ (numbers : List ℕ) (k : Keeps (readOf t) numbers) (l : count ≤ 66) (zeros image : List ℕ) (r : Bool)
         (i : Imaged (planBy (take (2 + 4 * (count / 4)) numbers)) zeros image r) where
-      is : planOf t ≡ planBy (take (2 + 4 * (count / 4)) numbers)
+      abbrev plan : Plan
+      plan = planBy (take (2 + 4 * (count / 4)) numbers)
+
+      is : planOf t ≡ plan
       is = plan-kept t count e numbers k l
 
       pub found-large : r ≡ false → refusing Refused before 1 ≡ writingOf t before
@@ -128,10 +129,10 @@ module _ (t before : List ℕ) (count : ℕ) (e : Whole count ≡ readingOf t) w
         written : take (8 + 8 * (count / 4)) image ≡ imageOf (planOf t)
         written = rw (i .1 y .bytes, ← is) (take-at (imageOf (planOf t)) _ (8 + 8 * (count / 4)) long)
 
-        pub found-image : Found t before (8 + 8 * (count / 4)) image
+        pub found-image : Found t before plan (8 + 8 * (count / 4)) (take (8 + 8 * (count / 4)) image)
         found-image = record {
           long = ap length written ∙ long;
           room = ltb-false _ _ s;
-          most = omega (arith, l);
-          answers = λ {o} q. q ∙ ap (λ (x : List ℕ). judgedOf x before) written ∙ judged t before (has-form t count e) room;
+          bad = λ m. refused-map t before (has-form t count e) room (rw written at m);
+          good = λ m j. rw (← long, j .1 (j .0 ∙ sym (i .0) ∙ y) .bytes, zero-add, ← is) (accepted t before (has-form t count e) room (rw written at m));
         }

@@ -2,17 +2,16 @@
 -- Assumes nothing.
 use Prim.Native.Nat.{ℕ, zero, suc, _+_, _*_, _/_, _%_, _≤_, _<_}
 use mathlib.Core.Path.{_≡_, refl, sym, ap, subst, _∙_}
-use mathlib.Core.Bool.{Bool, true, false, _||_, not, false≢true}
+use mathlib.Core.Bool.{false, false≢true}
 use mathlib.Core.List.{List, [], _∷_, _++_, flatMap}
 use native.Mathlib.Omega.{arith}
 use native.Mathlib.Nat.{not-suc-le-zero, le-of-suc-le-suc}
 use lib.ListN.{length, getD, drop}
 use lib.Seq.{getD-drop, drop-drop}
-use lib.Dec.{ltb}
 use borrow.Author.Tests.{le-ltb}
 use Rattle.laws.specs.Tests.{not-yes}
 use Rattle.laws.specs.Below.{allBelow, fails-at}
-use Rattle.endian.specs.Endian.{byteAt, u16At, u16-drop}
+use Rattle.endian.specs.Endian.{u16At, u16-drop}
 use Rattle.map.specs.Map.{headerOf, entryPlace, entryAt, entryOf, mapGood}
 use Rattle.map.specs.Laws.{map-header, map-entry}
 use Rattle.map.specs.declared.Header.{Header}

@@ -3,10 +3,10 @@ use Prim.Native.Nat.{ℕ, zero, suc, _+_, _-_, _*_, _/_, _%_, _≤_, _<_}
 use mathlib.Core.Path.{_≡_, refl, sym, ap, _∙_}
 use mathlib.Core.Logic.{⊎-elim}
 use mathlib.Core.Bool.{Bool, true, false, _||_, not, false≢true}
-use mathlib.Core.List.{List, [], _∷_, _++_, flatMap}
+use mathlib.Core.List.{List, [], _++_, flatMap}
 use native.Mathlib.Omega.{arith}
 use native.Mathlib.Numerals.{add-one}
-use native.Mathlib.Nat.{zero-add, not-suc-le-zero, le-of-suc-le-suc}
+use native.Mathlib.Nat.{not-suc-le-zero, le-of-suc-le-suc}
 use lib.ListN.{length, getD, take, drop, length-take}
 use lib.Seq.{take-suc, take-length, getD-take, getD-drop}
 use lib.Dec.{ltb}
@@ -14,16 +14,13 @@ use borrow.Author.Tests.{lt-ltb, le-ltb}
 use Rattle.laws.specs.Tests.{lt-or-le}
 use Rattle.laws.specs.Put.{Put, retext}
 use Rattle.laws.specs.Below.{allBelow, all-fails}
-use Rattle.context.specs.State.{outcome, refusing}
 use Rattle.endian.specs.Endian.{bytes4}
-use Rattle.map.specs.Map.{mapGood}
-use Rattle.map.specs.Image.{u16, entry, image}
+use Rattle.map.specs.Image.{u16, entry}
 use Rattle.map.specs.declared.Entry.{Entry}
-use Rattle.plan.specs.declared.Answer.the-variants.{Written, Refused}
 use Rattle.plan.specs.Form.{Plan, entryIn}
 use Rattle.plan.specs.Reading.{entriesBy, planBy}
 use Rattle.plan.specs.Laws.{flat-snoc}
-use Rattle.plan.specs.Writing.{entryBytes, imageOf, roomFor, judgedOf}
+use Rattle.plan.specs.Writing.{entryBytes, imageOf, roomFor}
 
 -- a kind and flags that their bytes hold
 unfoldable pub fitsAt : (p : Plan) (i : ℕ) → Bool
@@ -59,14 +56,6 @@ entry-is first n kind flags k f =
     let a : (kind + 256 * flags) % 256 ≡ kind = omega arith in
     let b : (kind + 256 * flags) / 256 ≡ flags = omega arith in
     rw (a, b)
-
--- an image that has the room, judged
-module _ (image before : List ℕ) where
-  pub bad-is : mapGood image ≡ false → refusing Refused before 1 ≡ judgedOf image before
-  bad-is e = rw e
-
-  pub good-is : {after : List ℕ} {next : ℕ} → mapGood image ≡ true → Put 0 image before after next → outcome (Written (length image)) after ≡ judgedOf image before
-  good-is e p = rw (e, p .bytes, zero-add)
 
 -- ---- the entries, one after the other
 

@@ -1,21 +1,21 @@
 -- A text is read to its end exactly when it has the form, and then it says what was read. Assumes nothing.
 use Prim.Native.Nat.{ℕ, zero, suc, _+_, _-_, _*_, _/_, _%_, _≤_, _<_}
-use mathlib.Core.Path.{_≡_, refl, sym, ap, subst, _∙_}
+use mathlib.Core.Path.{_≡_, refl, ap, _∙_}
 use mathlib.Core.Logic.{⊎-elim}
-use mathlib.Core.Bool.{Bool, true, false, cond, _&&_, false≢true}
+use mathlib.Core.Bool.{true, false, _&&_, false≢true}
 use mathlib.Core.List.{List, [], _∷_, _++_, flatMap, append-assoc, append-nil}
 use native.Mathlib.Omega.{arith}
 use native.Mathlib.Nat.{zero-add}
-use lib.ListN.{length, getD, drop, length-append}
+use lib.ListN.{length, length-append}
 use lib.Seq.{append-snoc}
 use lib.Dec.{eqb, leb, ltb}
-use borrow.Author.Tests.{ltb-true, ltb-false, leb-true, leb-false, eqb-true, lt-ltb, le-ltb, le-leb, eq-eqb, ne-eqb}
+use borrow.Author.Tests.{ltb-true, leb-true, eqb-true, lt-ltb, le-leb, eq-eqb, ne-eqb}
 use Rattle.laws.specs.Tests.{and, decided, lt-or-le, cond-keeps}
 use Rattle.text.specs.Text.{digit, decimal}
 use Rattle.text.specs.Laws.{decimal-one, decimal-more}
 use Rattle.map.specs.declared.Entry.{Entry}
-use Rattle.plan.specs.Form.{Plan, firstLine, partitionLine, textOf, entryNumbers, numbersOf, Small, Form}
-use Rattle.plan.specs.Reading.{isDigit, after, Progress, between, within, broken, digitMore, numberEnds, step, readFrom, readOf, numbersIn, whole, entriesBy, planBy, hasForm, planOf}
+use Rattle.plan.specs.Form.{Plan, partitionLine, textOf, entryNumbers, numbersOf, Small, Form}
+use Rattle.plan.specs.Reading.{isDigit, after, Progress, between, within, broken, digitMore, step, readFrom, readOf, numbersIn, whole, entriesBy, planBy, hasForm, planOf}
 
 -- ---- the text of numbers, the byte behind each by its place
 
@@ -175,7 +175,7 @@ unfolding flatMap
 entries-back [] = refl
 entries-back (x ∷ xs) = rw (entries-back xs)
 
-numbers-length : (p : Plan) → length (numbersOf p) ≡ 2 + 4 * length (p .entries)
+pub numbers-length : (p : Plan) → length (numbersOf p) ≡ 2 + 4 * length (p .entries)
 unfolding numbersOf
 numbers-length p = omega (arith, flat-length entryNumbers 4 (λ x. refl) (p .entries))
 

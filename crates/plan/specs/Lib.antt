@@ -6,3 +6,7 @@ pub mod Steps
 pub mod Images
 pub mod Fields
 pub mod Answers
+pub mod Valid
+pub mod Exactly
+pub mod Longest
+pub mod Vectors

@@ -1,31 +1,21 @@
 -- How the code keeps what it has read: a count, a value in which 65,536 stands for no digit yet, and as many numbers as a map can have.
 -- The laws of one byte more. Assumes nothing.
-use Prim.Native.Nat.{ℕ, suc, _+_, _-_, _*_, _/_, _%_, _≤_, _<_}
-use mathlib.Core.Path.{_≡_, refl, sym, ap, subst, _∙_}
+use Prim.Native.Nat.{ℕ, _+_, _-_, _*_, _%_, _≤_, _<_}
+use mathlib.Core.Path.{_≡_, refl, sym, ap, _∙_}
 use mathlib.Core.Logic.{⊎-elim}
-use mathlib.Core.Bool.{Bool, true, false, cond, _&&_, _||_, not, and-false, false≢true}
+use mathlib.Core.Bool.{true, false, cond, _&&_, _||_, not, and-false}
 use mathlib.Core.List.{List, [], _∷_, _++_}
 use native.Mathlib.Omega.{arith}
 use native.Mathlib.Numerals.{add-one}
-use native.Mathlib.Nat.{zero-add}
 use lib.ListN.{length, getD, take, drop, set, length-append, length-set, take-append-drop}
 use lib.Seq.{take-all, take-suc, take-suc-set, take-append-le}
 use lib.Dec.{eqb, leb, ltb}
 use borrow.Author.Tests.{ltb-false, eqb-true, lt-ltb, le-ltb, le-leb, lt-leb, eq-eqb, ne-eqb, not-true, not-false}
 use Rattle.laws.specs.Tests.{lt-or-le, neither, cond-keeps}
-use Rattle.laws.specs.Put.{Put}
-use Rattle.laws.specs.Below.{allBelow}
-use Rattle.context.specs.State.{outcome, refusing}
-use Rattle.endian.specs.Endian.{bytes4}
-use Rattle.map.specs.Map.{mapGood}
-use Rattle.map.specs.Image.{u16, entry}
-use Rattle.plan.specs.declared.Answer.the-variants.{Written, Refused}
 use Rattle.plan.specs.declared.Reading.{Reading}
 use Rattle.plan.specs.declared.Reading.the-variants.{Whole, Formless}
-use Rattle.plan.specs.Form.{Plan, entryIn}
 use Rattle.plan.specs.Reading.{isDigit, after, Progress, between, within, broken, step, readFrom, readOf, numbersIn, whole}
 use Rattle.plan.specs.Laws.{digit-range, read-append}
-use Rattle.plan.specs.Writing.{imageOf, roomFor, judgedOf}
 
 -- a value with one digit more
 abbrev pub longer : (value c : ℕ) → ℕ

@@ -1,6 +1,6 @@
 -- Document 02, request P2, "Write the map": the image that a text becomes, and the refusals. Assumes nothing.
 use Prim.Native.Nat.{ℕ, _+_, _*_}
-use mathlib.Core.Bool.{Bool, cond, not}
+use mathlib.Core.Bool.{Bool, not}
 use mathlib.Core.List.{List, [], _∷_, _++_, flatMap}
 use lib.ListN.{length, drop}
 use lib.Dec.{ltb}
@@ -40,7 +40,3 @@ inFront image before = outcome (Written (length image)) (image ++ drop (length i
 -- what is answered, and the lent buffer afterwards
 unfoldable pub writingOf : (t before : List ℕ) → Outcome Answer (List ℕ)
 writingOf t before = firstOf (refusing Refused before) (writingTests t (length before)) (inFront (imageOf (planOf t)) before)
-
--- the same for an image that has the room
-abbrev pub judgedOf : (image before : List ℕ) → Outcome Answer (List ℕ)
-judgedOf image before = firstOf (refusing Refused before) ((not (mapGood image), 1) ∷ []) (inFront image before)

@@ -15,7 +15,7 @@ ghost use Rattle.map.specs.Image.{u16, entry};
 ghost use Rattle.plan.specs.Reading.{isDigit, after, planBy, readOf};
 ghost use Rattle.plan.specs.Steps.{longer, kept, Keeps, readingOf};
 ghost use Rattle.plan.specs.Images.{Imaged};
-ghost use Rattle.plan.specs.Writing.{judgedOf, writingOf};
+ghost use Rattle.plan.specs.Writing.{writingOf};
 
 // What came of a text: an image of so many bytes, or refused with its number.
 pub enum Answer {
@@ -144,7 +144,7 @@ fn put_entry(image: &mut [u8], at: usize, first: u16, n: u16, kind: u16, flags: 
 
 // Writes the image of a plan, unless a kind or flags is more than its byte holds: whether it did.
 fn put_image(image: &mut [u8], numbers: &[u16], lines: usize) -> bool
-    requires { ⌜ (length (now image) ≡ 136) × (length (now numbers) ≡ 66) × (lines ≤ 16) ⌝ }
+    requires { ⌜ (8 + 8 * lines ≤ length (now image)) × (length (now numbers) ≡ 66) × (lines ≤ 16) ⌝ }
     ensures { λ r. ⌜ Imaged (planBy (take (2 + 4 * lines) (now (numbers .entry)))) (now (image .entry)) (now (image .exit)) r ⌝ }
 {
     let mut at = put_header(image, lines as u16, numbers[0], numbers[1]);
@@ -162,20 +162,9 @@ fn put_image(image: &mut [u8], numbers: &[u16], lines: usize) -> bool
     true
 }
 
-// Writes a good image into the lent buffer, and refuses any other.
-fn write_good(image: &[u8], out: &mut [u8]) -> Answer
-    requires { ⌜ (length (now image) ≤ length (now out)) × (length (now image) ≤ 136) ⌝ }
-    ensures { λ r. ⌜ outcome r (now (out .exit)) ≡ judgedOf (now (image .entry)) (now (out .entry)) ⌝ }
-{
-    if !map::is_good(image) {
-        return Answer::Refused(1);
-    }
-    text::put(out, 0, image);
-    Answer::Written(image.len() as u32)
-}
-
 // Writes the image of a text into the front of the lent buffer. The rest of the buffer keeps its
-// bytes, and so does all of it where the text is refused.
+// bytes, and so does all of it where the text is refused: the image is judged in an array of ours, and
+// then written a second time, since a copy of so many bytes would be a call of C's `memcpy`.
 pub fn write_map(text: &[u8], out: &mut [u8]) -> Answer
     ensures { λ r. ⌜ outcome r (now (out .exit)) ≡ writingOf (now (text .entry)) (now (out .entry)) ⌝ }
 {
@@ -194,5 +183,10 @@ pub fn write_map(text: &[u8], out: &mut [u8]) -> Answer
     if !put_image(&mut image, &numbers, lines) {
         return Answer::Refused(1);
     }
-    write_good(&image[..8 + 8 * lines], out)
+    let size = 8 + 8 * lines;
+    if !map::is_good(&image[..size]) {
+        return Answer::Refused(1);
+    }
+    put_image(out, &numbers, lines);
+    Answer::Written(size as u32)
 }

@@ -1,17 +1,17 @@
 -- What a caller of `put_decimal` knows of the number's text: its digits as the code lends them, its length, and that it reads back.
 -- Assumes nothing.
-use Prim.Native.Nat.{ℕ, zero, suc, _+_, _-_, _*_, _/_, _≤_, _<_}
+use Prim.Native.Nat.{ℕ, zero, suc, _+_, _-_, _*_, _/_, _^_, _≤_, _<_}
 use mathlib.Core.Path.{_≡_, refl, ap, _∙_}
 use mathlib.Core.Logic.{⊎-elim}
 use mathlib.Core.Bool.{true, false}
 use mathlib.Core.List.{List, [], _∷_, _++_}
 use native.Mathlib.Omega.{arith}
-use native.Mathlib.Nat.{div-div-eq-div-mul, not-suc-le-zero}
-use lib.ListN.{length, take, drop, length-drop}
+use native.Mathlib.Nat.{div-div-eq-div-mul, not-suc-le-zero, pow-suc}
+use lib.ListN.{length, take, drop, length-append, length-drop}
 use lib.Seq.{take-all}
 use lib.Dec.{ltb}
 use borrow.Author.Tests.{ltb-true, ltb-false, lt-ltb, le-ltb}
-use Rattle.laws.specs.Tests.{decided}
+use Rattle.laws.specs.Tests.{decided, lt-or-le}
 use Rattle.text.specs.Text.{digit, digitsOf, decimal, four, zeros}
 use Rattle.laws.specs.Put.{Put, retext}
 
@@ -41,6 +41,17 @@ decimal-more v l =
     let rest : digitsOf v (v / 10) ≡ digitsOf (suc (v / 10)) (v / 10) =
     ap (λ (k : ℕ). digitsOf k (v / 10)) n ∙ enough (v - 1) (v / 10) (v / 10) (omega arith) (omega arith) in
     rw (le-ltb v 10 l, rest)
+
+-- a number below a power of ten has no more digits than that has zeros
+pub decimal-length : (d v : ℕ) → v < 10 ^ suc d → length (decimal v) ≤ suc d
+decimal-length zero v l = rw (decimal-one v l) (omega arith)
+decimal-length (suc d) v l =
+    ⊎-elim
+    (λ (a : v < 10). rw (decimal-one v a) (omega arith))
+    (λ (a : 10 ≤ v).
+    let front = decimal-length d (v / 10) (let m : v < 10 ^ suc d * 10 = rw (← pow-suc 10 (suc d)) l in omega arith) in
+    rw (decimal-more v a) (simp length-append (omega arith)))
+    (lt-or-le v 10)
 
 -- ---- below 10,000 it is four digits without the leading zeros
 

@@ -2,9 +2,11 @@
 use Prim.Native.Nat.{_+_, _*_, _/_}
 use mathlib.Core.Path.{_≡_, sym, _∙_}
 use native.Mathlib.Omega.{arith}
+use lib.ListN.{take}
 use borrow.Author.Tests.{not-true, not-false}
 use borrow.Author.Needs.{needs}
 use Rattle.plan.specs.Answers.{no-form, refused-form, found-short, found-many, found-large, Found, found-image}
+use Rattle.plan.specs.Reading.{planBy}
 use Rattle.plan.specs.Steps.{readingOf}
 use Rattle.plan.specs.declared.Reading.the-variants.{Whole}
 use Rattle.plan.proofs.write_map.Statement.{statement}
@@ -62,18 +64,21 @@ returns-4 c =
     found-large _ _ _ (told count) (sym (short .is-short .ensures) ∙ few .before .if1 .left) _ (count .before .before .before .read-numbers .ensures .1) (few .if2 .left)
     _ _ _ (image .put-image .ensures) (not-true _ (c .if3 .taken))
 
-mul-image : tie.Need-mul-image
-mul-image c = search needs
+mul-size : tie.Need-mul-size
+mul-size c = search needs
 
-add-image : tie.Need-add-image
-add-image c = search needs
+add-size : tie.Need-add-size
+add-size c = search needs
 
 array-share-prefix-image : tie.Need-array-share-prefix-image
 array-share-prefix-image c = search needs
 
 -- the image is written
-found : (c : tie.Else3) → let start = c .before .before .before .before .before .before .before .before .before .before .before .before .before .before .before .before in
-    Found (start .args .text .now) (start .args .out .now) (8 + 8 * (c .before .before .before .before .before .before .before .before .before .count .given .0 .0 / 4)) (c .before .before .put-image .last .0)
+found : (c : tie.Else3) →
+    let start = c .before .before .before .before .before .before .before .before .before .before .before .before .before .before .before .before in
+    let count = c .before .before .before .before .before .before .before .before .before .count .given .0 .0 in
+    let numbers = c .before .before .before .before .before .before .before .before .before .before .before .before .read-numbers .last .1 .0 in
+    Found (start .args .text .now) (start .args .out .now) (planBy (take (2 + 4 * (count / 4)) numbers)) (8 + 8 * (count / 4)) (take (8 + 8 * (count / 4)) (c .before .before .put-image .last .0))
 found c =
     let image = c .before .before in
     let few = image .before .before .before in
@@ -82,21 +87,32 @@ found c =
     found-image _ _ _ (told count) (sym (short .is-short .ensures) ∙ few .before .if1 .left) _ (count .before .before .before .read-numbers .ensures .1) (few .if2 .left)
     _ _ _ (image .put-image .ensures) (not-false _ (c .if3 .left))
 
-slice-aggregate-write-good : tie.Need-slice-aggregate-write-good
-slice-aggregate-write-good c = sym (found (c .before) .long)
+slice-aggregate-is-good : tie.Need-slice-aggregate-is-good
+slice-aggregate-is-good c = sym (found (c .before) .long)
 
-write-good-requires : tie.Need-write-good-requires
-write-good-requires c κs =
-    let f = found (c .before .before) in
-    (omega (arith, f .long, f .room), omega (arith, f .long, f .most))
+is-good-requires : tie.Need-is-good-requires
+is-good-requires c κs = search needs
+
+returns-5 : tie.Need-returns-5
+returns-5 c = found (c .before .before .before) .bad (sym (c .before .is-good .ensures) ∙ not-true _ (c .if4 .taken))
+
+slice-aggregate-put-image-3 : tie.Need-slice-aggregate-put-image-3
+slice-aggregate-put-image-3 c = search needs
+
+put-image-requires-2 : tie.Need-put-image-requires-2
+put-image-requires-2 c κs = (found (c .before .before .before .before .before) .room, search needs, search needs)
+
+cast-t25 : tie.Need-cast-t25
+cast-t25 c = search needs
 
 same-length : tie.Need-same-length
 same-length c = search needs
 
-returns-5 : tie.Need-returns-5
-returns-5 c =
-    let good = c .before .before in
-    found (good .before .before .before) .answers (good .write-good .ensures)
+returns-6 : tie.Need-returns-6
+returns-6 c =
+    let again = c .before .before in
+    let good = again .before .before .before in
+    found (good .before .before .before) .good (sym (good .before .is-good .ensures) ∙ not-false _ (good .if4 .left)) (again .put-image2 .ensures)
 
 pub write-map-spec : {M : Type 1} → statement M
 write-map-spec =
@@ -114,10 +130,14 @@ write-map-spec =
     slice-aggregate-put-image-2
     put-image-requires
     returns-4
-    mul-image
-    add-image
+    mul-size
+    add-size
     array-share-prefix-image
-    slice-aggregate-write-good
-    write-good-requires
+    slice-aggregate-is-good
+    is-good-requires
+    returns-5
+    slice-aggregate-put-image-3
+    put-image-requires-2
+    cast-t25
     same-length
-    returns-5)
+    returns-6)
