@@ -1,7 +1,7 @@
 // What the desk's programs do, each by its name: standard input is read, and what `report` makes of it
-// goes to standard output. Bytes are only moved here, and `report` decides every one of them. What is
-// not read of a longer input changes nothing: by then the input is longer than any drive (`report`'s
-// law `past-any-drive`). Input that cannot be read and output that cannot be written are told on
+// goes to the stream that `report` says. Bytes are only moved here, and `report` decides every one of
+// them. What is not read of a longer input changes nothing: by then the input is longer than any drive
+// and any map's text (`report`'s law `past-any-drive`). Input that cannot be read and output that cannot be written are told on
 // standard error, since a program has no exit status to give: without that line they would pass for an
 // empty input and for a silent success. It rests on `report`, and on `io` and `libc` of the kit.
 use libc::STDERR_FILENO;
@@ -9,6 +9,7 @@ use libc::STDIN_FILENO;
 use libc::STDOUT_FILENO;
 use report::Failure;
 use report::Program;
+use report::Stream;
 ghost use mathlib.Core.Path.{_≡_};
 ghost use Rattle.desk.specs.Intake.{intakeOf, Within};
 
@@ -60,8 +61,14 @@ fn tell(program: Program, failure: Failure) {
 // Prints what `report` makes of the input.
 fn print_report(program: Program, input: &[u8]) {
     let mut out = [0u8; 512];
-    let count = report::report_drive(program, input, &mut out);
-    if !io::write_all(STDOUT_FILENO, &out[..count]) {
+    let report = report::report_on(program, input, &mut out);
+    let count = report.count;
+    let stream = report.stream;
+    let file = match stream {
+        Stream::Output => STDOUT_FILENO,
+        Stream::Errors => STDERR_FILENO,
+    };
+    if !io::write_all(file, &out[..count]) {
         tell(program, Failure::Output);
     }
 }

@@ -86,9 +86,16 @@ header-rules h len g =
 pub rules-header : (h : Header) (len : ℕ) → HeaderRules h len → headerGood h len ≡ true
 unfolding headerGood every
 rules-header h len r =
-    rw (le-leb 1 (h .partitions) (r .partitions-least), le-leb (h .partitions) 16 (r .partitions-most), le-leb 4 (h .cells) (r .cells-least),
-    le-leb (h .cells) 2048 (r .cells-most), le-leb 33 (h .bound) (r .bound-least), le-leb (h .bound) 64 (r .bound-most),
-    le-leb 8 (h .offset) (r .offset-least), le-leb (h .offset) 128 (r .offset-most)) (eq-eqb len (h .offset + 8 * h .partitions) (r .long))
+    rw (
+      le-leb 1 (h .partitions) (r .partitions-least),
+      le-leb (h .partitions) 16 (r .partitions-most),
+      le-leb 4 (h .cells) (r .cells-least),
+      le-leb (h .cells) 2048 (r .cells-most),
+      le-leb 33 (h .bound) (r .bound-least),
+      le-leb (h .bound) 64 (r .bound-most),
+      le-leb 8 (h .offset) (r .offset-least),
+      le-leb (h .offset) 128 (r .offset-most),
+    ) (eq-eqb len (h .offset + 8 * h .partitions) (r .long))
 
 pub record EntryRules (before cells : ℕ) (x : Entry) : Type 0 where
   pub kind-known : x .kind ≤ 2

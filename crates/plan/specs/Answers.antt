@@ -95,7 +95,8 @@ pub record Found (t before : List ℕ) (plan : Plan) (size : ℕ) (image : List 
   pub long : length image ≡ size
   pub room : size ≤ length before
   pub bad : mapGood image ≡ false → refusing Refused before 1 ≡ writingOf t before
-  pub good : mapGood image ≡ true → {after : List ℕ} {again : Bool} → Imaged plan before after again → outcome (Written size) after ≡ writingOf t before
+  pub good : mapGood image ≡ true → {after : List ℕ} {again : Bool} → Imaged plan before after again
+      → outcome (Written size) after ≡ writingOf t before
 
 -- the same by what the code has found: so many numbers, the room, and those that were kept
 module _ (t before : List ℕ) (count : ℕ) (e : Whole count ≡ readingOf t) where
@@ -134,5 +135,6 @@ module _ (t before : List ℕ) (count : ℕ) (e : Whole count ≡ readingOf t) w
           long = ap length written ∙ long;
           room = ltb-false _ _ s;
           bad = λ m. refused-map t before (has-form t count e) room (rw written at m);
-          good = λ m j. rw (← long, j .1 (j .0 ∙ sym (i .0) ∙ y) .bytes, zero-add, ← is) (accepted t before (has-form t count e) room (rw written at m));
+          good = λ m j. rw (← long, j .1 (j .0 ∙ sym (i .0) ∙ y) .bytes, zero-add, ← is)
+              (accepted t before (has-form t count e) room (rw written at m));
         }

@@ -3,13 +3,13 @@
 use Prim.Native.Nat.{ℕ, _≤_, _<_}
 use mathlib.Core.Path.{_≡_, refl, sym, ap, subst, _∙_}
 use mathlib.Core.Logic.{_⊎_, inl, inr, ⊎-elim, _↔_}
-use mathlib.Core.Bool.{Bool, true, false, false≢true}
+use mathlib.Core.Bool.{true, false, false≢true}
 use mathlib.Core.List.{List, _++_}
 use native.Mathlib.Omega.{arith}
 use lib.ListN.{length, take, drop, length-append, length-drop}
 use lib.Seq.{take-at, drop-at}
 use lib.Dec.{ltb}
-use borrow.Author.Tests.{ltb-true, ltb-false, le-ltb, lt-ltb}
+use borrow.Author.Tests.{ltb-true, ltb-false}
 use Rattle.laws.specs.Tests.{decided}
 use Rattle.context.specs.State.{Outcome, refusing}
 use Rattle.map.specs.Map.{headerOf, mapGood}
@@ -119,19 +119,25 @@ module _ (t before : List ℕ) where
   number e = cc
 
   refused : (o : Outcome Answer (List ℕ)) → Way o → (n : ℕ) → (o .told ≡ Refused n) ↔ RefusedWith n
-  refused o (formless none) n =
-      (λ e. inl (number e, inl none),
-      λ w. ⊎-elim (λ (a : (n ≡ 16) × Sixteen t before). ap Refused (sym (a .0))) (λ (a : (n ≡ 1) × One t before). absurd (none (a .1 .0) (a .1 .1 .0))) w)
-  refused o (short p f s) n =
-      (λ e. inl (number e, inr (p, f, s)),
-      λ w. ⊎-elim (λ (a : (n ≡ 16) × Sixteen t before). ap Refused (sym (a .0))) (λ (a : (n ≡ 1) × One t before). absurd (not-one (a .1 .0) (a .1 .1) (inr (p, f, s)))) w)
-  refused o (bad p r m) n =
-      (λ e. inr (number e, (p, r, no-map p m)),
-      λ w. ⊎-elim (λ (a : (n ≡ 16) × Sixteen t before). absurd (not-one p r (a .1))) (λ (a : (n ≡ 1) × One t before). ap Refused (sym (a .0))) w)
-  refused o (good p r m) n =
-      (λ e. absurd (not-both e refl),
-      λ w. ⊎-elim (λ (a : (n ≡ 16) × Sixteen t before). absurd (not-one p r (a .1)))
-      (λ (a : (n ≡ 1) × One t before). absurd (a .1 .2 (subst SomeMap (one-plan p (a .1 .0) (r .0) (a .1 .1 .0)) (imageOf p, good-valid p m)))) w)
+  refused o (formless none) n = (
+    λ e. inl (number e, inl none),
+    λ w. ⊎-elim (λ (a : (n ≡ 16) × Sixteen t before). ap Refused (sym (a .0)))
+        (λ (a : (n ≡ 1) × One t before). absurd (none (a .1 .0) (a .1 .1 .0))) w,
+  )
+  refused o (short p f s) n = (
+    λ e. inl (number e, inr (p, f, s)),
+    λ w. ⊎-elim (λ (a : (n ≡ 16) × Sixteen t before). ap Refused (sym (a .0)))
+        (λ (a : (n ≡ 1) × One t before). absurd (not-one (a .1 .0) (a .1 .1) (inr (p, f, s)))) w,
+  )
+  refused o (bad p r m) n = (
+    λ e. inr (number e, (p, r, no-map p m)),
+    λ w. ⊎-elim (λ (a : (n ≡ 16) × Sixteen t before). absurd (not-one p r (a .1))) (λ (a : (n ≡ 1) × One t before). ap Refused (sym (a .0))) w,
+  )
+  refused o (good p r m) n = (
+    λ e. absurd (not-both e refl),
+    λ w. ⊎-elim (λ (a : (n ≡ 16) × Sixteen t before). absurd (not-one p r (a .1)))
+        (λ (a : (n ≡ 1) × One t before). absurd (a .1 .2 (subst SomeMap (one-plan p (a .1 .0) (r .0) (a .1 .1 .0)) (imageOf p, good-valid p m)))) w,
+  )
 
   written : (o : Outcome Answer (List ℕ)) → Way o → (n : ℕ) → o .told ≡ Written n → (p : Plan) × Form t p × Image p before (o .after) n
   written o (formless none) n e = absurd (not-both refl e)
@@ -141,14 +147,17 @@ module _ (t before : List ℕ) where
       let is : n ≡ length (imageOf p) = cc in
       let front : take n (imageOf p ++ drop (length (imageOf p)) before) ≡ imageOf p = take-at (imageOf p) _ n (sym is) in
       let rest : drop n (imageOf p ++ drop (length (imageOf p)) before) ≡ drop n before = drop-at (imageOf p) _ n (sym is) ∙ rw is in
-      let long = image-length p in
-      (p, r .0, record {
-        size = is ∙ long;
-        valid = rw front (good-valid p m);
-        offset = rw front (ap (λ (h : Header). h .offset) (image-header p));
-        past = rest;
-        same = simp (length-append, length-drop) (omega (arith, r .1));
-      })
+      let long = image-length p in (
+        p,
+        r .0,
+        record {
+          size = is ∙ long;
+          valid = rw front (good-valid p m);
+          offset = rw front (ap (λ (h : Header). h .offset) (image-header p));
+          past = rest;
+          same = simp (length-append, length-drop) (omega (arith, r .1));
+        },
+      )
 
   unchanged : (o : Outcome Answer (List ℕ)) → Way o → (n : ℕ) → o .told ≡ Refused n → o .after ≡ before
   unchanged o (formless none) n e = refl

@@ -36,7 +36,8 @@ entry-drop s k =
     rw (u16-drop s k 0, u16-drop s k 2, getD-drop k s 4 0, getD-drop k s 5 0, e)
 
 -- the bytes of entry i
-bytes-at : (xs : List Entry) (i : ℕ) (none : Entry) → i < length xs → drop (8 * i) (flatMap entryBytes xs) ≡ entryBytes (getD xs i none) ++ flatMap entryBytes (drop (suc i) xs)
+bytes-at : (xs : List Entry) (i : ℕ) (none : Entry) → i < length xs
+    → drop (8 * i) (flatMap entryBytes xs) ≡ entryBytes (getD xs i none) ++ flatMap entryBytes (drop (suc i) xs)
 unfolding flatMap
 bytes-at [] i none l = absurd (not-suc-le-zero l)
 bytes-at (x ∷ xs) zero none l = refl

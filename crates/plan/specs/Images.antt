@@ -41,8 +41,8 @@ short-is room lines h =
     (lt-or-le ((room - 8) / 8) lines)
 
 -- two u16 are a u32
-pub two-bytes : (low high : ℕ) → low < 65536 → high < 65536 → bytes4 (low + 65536 * high) ≡ u16 low ++ u16 high
-two-bytes low high l h =
+pub two-u16 : (low high : ℕ) → low < 65536 → high < 65536 → bytes4 (low + 65536 * high) ≡ u16 low ++ u16 high
+two-u16 low high l h =
     let a : (low + 65536 * high) % 256 ≡ low % 256 = omega arith in
     let more : (low + 65536 * high) / 256 ≡ low / 256 + 256 * high = omega arith in
     let upper : (low + 65536 * high) / 65536 ≡ high = omega arith in
@@ -51,7 +51,8 @@ two-bytes low high l h =
     rw (a, more, upper, b, d)
 
 -- kind and flags are a u16, and the two zero bytes another
-pub entry-is : (first n kind flags : ℕ) → kind ≤ 255 → flags ≤ 255 → u16 first ++ u16 n ++ (u16 (kind + 256 * flags) ++ u16 0) ≡ entry first n kind flags
+pub entry-is : (first n kind flags : ℕ) → kind ≤ 255 → flags ≤ 255
+    → u16 first ++ u16 n ++ (u16 (kind + 256 * flags) ++ u16 0) ≡ entry first n kind flags
 entry-is first n kind flags k f =
     let a : (kind + 256 * flags) % 256 ≡ kind = omega arith in
     let b : (kind + 256 * flags) / 256 ≡ flags = omega arith in

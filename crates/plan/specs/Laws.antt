@@ -15,7 +15,8 @@ use Rattle.text.specs.Text.{digit, decimal}
 use Rattle.text.specs.Laws.{decimal-one, decimal-more}
 use Rattle.map.specs.declared.Entry.{Entry}
 use Rattle.plan.specs.Form.{Plan, partitionLine, textOf, entryNumbers, numbersOf, Small, Form}
-use Rattle.plan.specs.Reading.{isDigit, after, Progress, between, within, broken, digitMore, step, readFrom, readOf, numbersIn, whole, entriesBy, planBy, hasForm, planOf}
+use Rattle.plan.specs.Reading.{isDigit, after, Progress, between, within, broken, digitMore, step, readFrom, readOf}
+use Rattle.plan.specs.Reading.{numbersIn, whole, entriesBy, planBy, hasForm, planOf}
 
 -- ---- the text of numbers, the byte behind each by its place
 
@@ -69,8 +70,16 @@ read-decimal numbers (suc most) v h l =
     (λ (a : v < 10). let e : v % 10 ≡ v = omega arith in rw (decimal-one v a, d .0, d .1, e))
     (λ (a : 10 ≤ v).
     let e : v / 10 * 10 + v % 10 ≡ v = omega arith in
-    rw (decimal-more v a, read-append (between numbers) (decimal (v / 10)) (digit v ∷ []), read-decimal numbers most (v / 10) (omega arith) (omega arith), d .0, d .1, e,
-    lt-ltb 0 (v / 10) (omega arith), le-leb v 65535 l))
+    rw (
+      decimal-more v a,
+      read-append (between numbers) (decimal (v / 10)) (digit v ∷ []),
+      read-decimal numbers most (v / 10) (omega arith) (omega arith),
+      d .0,
+      d .1,
+      e,
+      lt-ltb 0 (v / 10) (omega arith),
+      le-leb v 65535 l,
+    ))
     (lt-or-le v 10)
 
 -- the byte behind a number is no digit, and ends it
@@ -119,11 +128,13 @@ more-shown t numbers value c h e l m =
     let last : w % 10 + 48 ≡ c = omega (arith, r .0, r .1) in
     (rw (h .0, decimal-more w (omega arith), front, last, append-assoc), h .1, m)
 
-ended-shown : (t numbers : List ℕ) (value : ℕ) → Shown t (within numbers value) → Shown (t ++ (after (length numbers) ∷ [])) (between (numbers ++ (value ∷ [])))
+ended-shown : (t numbers : List ℕ) (value : ℕ) → Shown t (within numbers value)
+    → Shown (t ++ (after (length numbers) ∷ [])) (between (numbers ++ (value ∷ [])))
 ended-shown t numbers value h =
     (rw (h .0, flat-append 0 numbers (value ∷ []), zero-add, append-assoc), small-more numbers value (h .1) (h .2))
 
-digit-shown : (t numbers : List ℕ) (value c : ℕ) → Shown t (within numbers value) → isDigit c ≡ true → Shown (t ++ (c ∷ [])) (digitMore numbers value c)
+digit-shown : (t numbers : List ℕ) (value c : ℕ) → Shown t (within numbers value) → isDigit c ≡ true
+    → Shown (t ++ (c ∷ [])) (digitMore numbers value c)
 digit-shown t numbers value c h e =
     cond-keeps (Shown (t ++ (c ∷ []))) (ltb 0 value && leb (value * 10 + (c - 48)) 65535) _ _
     (λ y. let r = and (ltb 0 value) (leb (value * 10 + (c - 48)) 65535) y in more-shown t numbers value c h e (ltb-true _ _ (r .0)) (leb-true _ _ (r .1)))
@@ -133,7 +144,8 @@ step-shown : (t : List ℕ) (s : Progress) (c : ℕ) → Shown t s → Shown (t 
 step-shown t (between numbers) c h = cond-keeps (Shown (t ++ (c ∷ []))) (isDigit c) _ _ (λ y. first-shown t numbers c h y) (λ n. tt)
 step-shown t (within numbers value) c h =
     cond-keeps (Shown (t ++ (c ∷ []))) (isDigit c) _ _ (λ y. digit-shown t numbers value c h y)
-    (λ n. cond-keeps (Shown (t ++ (c ∷ []))) (eqb c (after (length numbers))) _ _ (λ y. rw (eqb-true c (after (length numbers)) y) (ended-shown t numbers value h)) (λ m. tt))
+    (λ n. cond-keeps (Shown (t ++ (c ∷ []))) (eqb c (after (length numbers))) _ _
+    (λ y. rw (eqb-true c (after (length numbers)) y) (ended-shown t numbers value h)) (λ m. tt))
 step-shown t broken c h = tt
 
 read-shown : (t : List ℕ) (s : Progress) (u : List ℕ) → Shown t s → Shown (t ++ u) (readFrom s u)
@@ -142,7 +154,7 @@ read-shown t s (c ∷ u) h = rw (← append-snoc t c u) (read-shown (t ++ (c ∷
 
 -- ---- numbers of whole lines are those of a plan
 
--- partitions of four numbers each
+-- what a function gives for each partition, one after the other
 module _ (f : Entry → List ℕ) where
   pub flat-snoc : (xs : List Entry) (x : Entry) → flatMap f (xs ++ (x ∷ [])) ≡ flatMap f xs ++ f x
   unfolding flatMap

@@ -4,21 +4,20 @@ use Prim.Native.Nat.{ℕ, suc, _+_, _*_, _≤_, _<_}
 use mathlib.Core.Path.{_≡_, sym, ap, _∙_}
 use mathlib.Core.Logic.{⊎-elim}
 use mathlib.Core.Bool.{true, false}
-use mathlib.Core.List.{List, [], _∷_, _++_}
+use mathlib.Core.List.{List, [], _∷_}
 use native.Mathlib.Omega.{arith}
 use lib.ListN.{length, take, length-append}
 use lib.Seq.{length-take-le}
 use borrow.Author.Tests.{lt-ltb}
 use Rattle.laws.specs.Tests.{decided}
+use Rattle.laws.specs.Refusals.{firstOf}
 use Rattle.context.specs.State.{refusing}
-use Rattle.text.specs.Text.{decimal}
 use Rattle.text.specs.Laws.{decimal-length}
 use Rattle.plan.specs.declared.Answer.the-variants.{Refused}
-use Rattle.plan.specs.Form.{Plan, textOf, numbersOf, Small, Form}
+use Rattle.plan.specs.Form.{Plan, numbersOf, Small, Form}
 use Rattle.plan.specs.Reading.{hasForm, planOf}
-use Rattle.plan.specs.Writing.{roomFor, writingOf}
+use Rattle.plan.specs.Writing.{imageOf, roomFor, writingTests, inFront, writingOf}
 use Rattle.plan.specs.Laws.{flat, text-is, numbers-length, formed}
-use Rattle.plan.specs.Answers.{refused-form, refused-room}
 
 -- a number of a text has at most five digits, and one byte follows it
 flat-most : (k : ℕ) (numbers : List ℕ) → Small numbers → length (flat k numbers) ≤ 6 * length numbers
@@ -33,15 +32,19 @@ text-most t p f =
     let all = flat-most 0 (numbersOf p) (f .small) in
     omega (arith, ap length (f .is), ap length (text-is p), all, numbers-length p)
 
-module _ (before : List ℕ) (room : length before < 8 + 8 * 17) where
-  too-long : (t : List ℕ) → 396 < length t → writingOf t before ≡ refusing Refused before 16
-  too-long t l =
-      ⊎-elim
-      (λ (f : hasForm t ≡ true). sym (refused-room t before f (lt-ltb (length before) (roomFor (planOf t)) (omega (arith, text-most t (planOf t) (formed t f))))))
-      (λ (f : hasForm t ≡ false). sym (refused-form t before f))
-      (decided (hasForm t))
+-- whatever is made of the answer: the first refusal is 16
+pub too-long : {A : Type 0} (t : List ℕ) (room : ℕ) → room < 8 + 8 * 17 → 396 < length t → (refuse : ℕ → A) (accepted : A)
+    → firstOf refuse (writingTests t room) accepted ≡ refuse 16
+too-long t room m l refuse accepted =
+    ⊎-elim
+    (λ (f : hasForm t ≡ true). rw (f, lt-ltb room (roomFor (planOf t)) (omega (arith, text-most t (planOf t) (formed t f)))))
+    (λ (f : hasForm t ≡ false). rw f)
+    (decided (hasForm t))
 
-  pub past-any-text : (t : List ℕ) (k : ℕ) → 396 < k → k ≤ length t → writingOf (take k t) before ≡ writingOf t before
-  past-any-text t k l h =
-      let long : length (take k t) ≡ k = length-take-le k t h in
-      too-long (take k t) (omega arith) ∙ sym (too-long t (omega arith))
+pub past-any-text : (before t : List ℕ) (k : ℕ) → length before < 8 + 8 * 17 → 396 < k → k ≤ length t
+    → writingOf (take k t) before ≡ writingOf t before
+unfolding writingOf
+past-any-text before t k m l h =
+    let long : length (take k t) ≡ k = length-take-le k t h in
+    too-long (take k t) (length before) m (omega arith) (refusing Refused before) (inFront (imageOf (planOf (take k t))) before)
+    ∙ sym (too-long t (length before) m (omega arith) (refusing Refused before) (inFront (imageOf (planOf t)) before))

@@ -82,14 +82,16 @@ keep-more ended numbers v long h =
 
 module _ (count value : ℕ) (numbers : List ℕ) (c : ℕ) where
   -- a digit goes on with a number, or breaks the form
-  pub digit-stands : (s : Progress) (w : ℕ) → Stands s count value numbers → isDigit c ≡ true → w ≡ longer value c → w ≤ 65535 → Stands (step s c) count w numbers
+  pub digit-stands : (s : Progress) (w : ℕ) → Stands s count value numbers → isDigit c ≡ true → w ≡ longer value c → w ≤ 65535
+      → Stands (step s c) count w numbers
   digit-stands (between ended) w h e q l = simp e (h .0, q ∙ simp (eq-eqb value 65536 (h .1)), omega (arith, digit-range c e .1), h .2)
   digit-stands (within ended v) w h e q l =
       let g = grown v w c (h .2) (q ∙ ap (λ (x : ℕ). longer x c) (h .1)) l in
       simp (e, g .0, le-leb (v * 10 + (c - 48)) 65535 (omega (arith, g .1))) (h .0, g .1, omega (arith, g .1), h .3)
   digit-stands broken w h e q l = absurd h
 
-  pub digit-breaks : (s : Progress) (w : ℕ) → Stands s count value numbers → isDigit c ≡ true → w ≡ longer value c → 65535 < w → step s c ≡ broken
+  pub digit-breaks : (s : Progress) (w : ℕ) → Stands s count value numbers → isDigit c ≡ true → w ≡ longer value c → 65535 < w
+      → step s c ≡ broken
   digit-breaks (between ended) w h e q l =
       absurd (let is : w ≡ c - 48 = q ∙ simp (eq-eqb value 65536 (h .1)) in omega (arith, digit-range c e .1))
   digit-breaks (within ended v) w h e q l = simp (e, overgrown v w c (h .2) (q ∙ ap (λ (x : ℕ). longer x c) (h .1)) l)
@@ -104,7 +106,8 @@ module _ (count value : ℕ) (numbers : List ℕ) (c : ℕ) where
       (rw (h .0, length-append ended (v ∷ [])), refl, rw (h .0, h .1) (keep-more ended numbers v long (rw (h .0) at (h .3))))
   end-stands broken long h e l q = absurd h
 
-  pub end-breaks : (s : Progress) → Stands s count value numbers → isDigit c ≡ false → (ltb 65535 value || not (eqb c (after count))) ≡ true → step s c ≡ broken
+  pub end-breaks : (s : Progress) → Stands s count value numbers → isDigit c ≡ false
+      → (ltb 65535 value || not (eqb c (after count))) ≡ true → step s c ≡ broken
   end-breaks (between ended) h e q = simp e
   end-breaks (within ended v) h e q =
       let fits : ltb 65535 value ≡ false = le-ltb 65535 value (omega (arith, h .1)) in

@@ -1,23 +1,21 @@
 -- "some valid map has those fields": where one has, whatever its E, the image with E = 8 is one. Assumes nothing.
-use Prim.Native.Nat.{ℕ, zero, suc, _+_, _*_, _/_, _%_, _≤_, _<_}
+use Prim.Native.Nat.{ℕ, zero, suc, _+_, _<_}
 use mathlib.Core.Path.{_≡_, refl, sym, ap, subst, _∙_}
-use mathlib.Core.Bool.{Bool, true, false, _&&_}
+use mathlib.Core.Bool.{true}
 use mathlib.Core.List.{List, [], _∷_, _++_, flatMap}
 use native.Mathlib.Omega.{arith}
 use native.Mathlib.Numerals.{add-one}
-use native.Mathlib.Nat.{not-suc-le-zero}
 use lib.ListN.{length, getD}
-use lib.Dec.{eqb, leb}
-use borrow.Author.Tests.{eqb-true, le-leb, eq-eqb}
-use Rattle.laws.specs.Tests.{every, every-at}
+use borrow.Author.Tests.{eqb-true}
+use Rattle.laws.specs.Tests.{every-at}
 use Rattle.laws.specs.Below.{allBelow, all-at, all-holds}
 use Rattle.endian.specs.Endian.{byteAt, u16At}
-use Rattle.map.specs.Map.{headerOf, entryPlace, entryOf, endOf, endBefore, headerGood, fillerGood, entryGood, placeGood, mapGood}
+use Rattle.map.specs.Map.{headerOf, entryPlace, entryOf, endOf, endBefore, fillerGood, entryGood, placeGood, mapGood}
 use Rattle.map.specs.Laws.{end-next, good-so-far, map-parts, HeaderRules, rules-header, map-header, EntryRules, map-entry}
 use Rattle.map.specs.declared.Header.{Header}
 use Rattle.map.specs.declared.Entry.{Entry}
 use Rattle.plan.specs.Form.{Plan, entryIn}
-use Rattle.plan.specs.Writing.{entryBytes, imageOf, roomFor}
+use Rattle.plan.specs.Writing.{entryBytes, imageOf}
 use Rattle.plan.specs.Fields.{image-length, image-header, image-entry, image-spare}
 
 -- "reading that image gives the same fields": C, B, as many partitions as the text has lines for them, and each one's four fields, read
@@ -120,7 +118,8 @@ byte-of (x ∷ s) b (suc k) = byte-of s (b .1) k
 entries-bytes : (xs : List Entry) (none : Entry) → ((i : ℕ) → i < length xs → Bytes (entryBytes (getD xs i none))) → Bytes (flatMap entryBytes xs)
 unfolding flatMap
 entries-bytes [] none h = tt
-entries-bytes (x ∷ xs) none h = bytes-append (entryBytes x) (flatMap entryBytes xs) (h 0 (omega arith)) (entries-bytes xs none (λ i l. h (suc i) (omega arith)))
+entries-bytes (x ∷ xs) none h =
+    bytes-append (entryBytes x) (flatMap entryBytes xs) (h 0 (omega arith)) (entries-bytes xs none (λ i l. h (suc i) (omega arith)))
 
 module _ (p : Plan) (g : mapGood (imageOf p) ≡ true) where
   rules : (i : ℕ) → i < length (p .entries) → EntryRules (endBefore (imageOf p) i) (headerOf (imageOf p) .cells) (entryIn p i)
@@ -132,8 +131,22 @@ module _ (p : Plan) (g : mapGood (imageOf p) ≡ true) where
   entry-bytes i l =
       let r = rules i l in
       let end = r .within in
-      let most = map-header (imageOf p) g .cells-most in
-      (omega arith, (omega arith, (omega arith, (omega arith, (omega (arith, r .kind-known), (omega (arith, r .flags-known), (omega arith, (omega arith, tt))))))))
+      let most = map-header (imageOf p) g .cells-most in (
+        omega arith,
+        (
+          omega arith,
+          (
+            omega arith,
+            (
+              omega arith,
+              (
+                omega (arith, r .kind-known),
+                (omega (arith, r .flags-known), (omega arith, (omega arith, tt))),
+              ),
+            ),
+          ),
+        ),
+      )
 
   image-bytes : Bytes (imageOf p)
   unfolding imageOf
@@ -141,9 +154,31 @@ module _ (p : Plan) (g : mapGood (imageOf p) ≡ true) where
       let h = map-header (imageOf p) g in
       let count = image-reads p .partitions in
       let cells = image-reads p .cells in
-      let bound = image-reads p .bound in
-      (omega arith, (omega (arith, h .partitions-most), (omega arith, (omega (arith, h .cells-most), (omega arith, (omega (arith, h .bound-most), (omega arith, (omega arith,
-      entries-bytes (p .entries) _ entry-bytes))))))))
+      let bound = image-reads p .bound in (
+        omega arith,
+        (
+          omega (arith, h .partitions-most),
+          (
+            omega arith,
+            (
+              omega (arith, h .cells-most),
+              (
+                omega arith,
+                (
+                  omega (arith, h .bound-most),
+                  (
+                    omega arith,
+                    (
+                      omega arith,
+                      entries-bytes (p .entries) _ entry-bytes,
+                    ),
+                  ),
+                ),
+              ),
+            ),
+          ),
+        ),
+      )
 
   pub good-valid : Valid (imageOf p) p
   good-valid = record { bytes = byte-of (imageOf p) image-bytes; good = g; reads = image-reads p }

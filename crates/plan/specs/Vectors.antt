@@ -7,13 +7,12 @@ use Rattle.laws.specs.Tests.{every}
 use Rattle.laws.specs.Below.{allBelow}
 use Rattle.context.specs.State.{outcome}
 use Rattle.endian.specs.Endian.{u16At}
-use Rattle.text.specs.Text.{text, decimal}
+use Rattle.text.specs.Text.{text}
 use Rattle.map.specs.Map.{headerGood, fillerGood, entryGood, placeGood, mapGood}
 use Rattle.map.specs.Image.{image}
 use Rattle.map.specs.Vectors.{two}
 use Rattle.plan.specs.declared.Answer.{Answer}
 use Rattle.plan.specs.declared.Answer.the-variants.{Written, Refused}
-use Rattle.plan.specs.Form.{textOf}
 use Rattle.plan.specs.Reading.{readOf, hasForm, planOf}
 use Rattle.plan.specs.Writing.{imageOf, writingOf}
 

@@ -27,8 +27,8 @@ use Rattle.laws.specs.Put.{Put}
 use Rattle.report.specs.declared.Reading.{Reading}
 use Rattle.report.specs.declared.Reading.the-variants.{Drive, Refused}
 use Rattle.report.specs.Status.{mapLength, imageOf, cellCount, numberAt, inputCells, inputTests, readingOf, lineOf, hekLine, lineAt, tableOf, SmallLine, SmallSlot}
-use Rattle.report.specs.declared.Program.{Program}
-use Rattle.report.specs.Report.{printed, reportOf, Printed}
+use Rattle.report.specs.declared.View.{View}
+use Rattle.report.specs.Report.{printed, driveReport, Printed}
 
 -- ---- the last line
 
@@ -145,9 +145,9 @@ in-front {t} {before} p =
       fits = omega (arith, p .is-next, p .room, p .same);
     }
 
-pub printed-by : (program : Program) (input before after : List ℕ) (r : ℕ) (reading : Reading) → readingOf input ≡ reading
-    → Put 0 (printed program reading input) before after r → Printed (reportOf program input) before after r
-printed-by program input before after r reading e p = in-front (rw e p)
+pub printed-by : (view : View) (input before after : List ℕ) (r : ℕ) (reading : Reading) → readingOf input ≡ reading
+    → Put 0 (printed view reading input) before after r → Put 0 (driveReport view input) before after r
+printed-by view input before after r reading e p = rw e p
 
 -- ---- every number of a good map's table has at most four digits, at what was read: the entry and the survey, or the active slot
 

@@ -16,8 +16,14 @@ use Rattle.endian.specs.Endian.{u16At}
 use Rattle.map.specs.Laws.{map-header}
 use Rattle.map.specs.Map.{mapGood}
 use Rattle.report.specs.Status.{mapLength, imageOf, cellCount, refusedLine}
+use Rattle.plan.specs.Reading.{planOf}
+use Rattle.plan.specs.Writing.{imageOf as planImage}
+use Rattle.plan.specs.Longest.{too-long}
 use Rattle.report.specs.declared.Program.{Program}
-use Rattle.report.specs.Report.{reportOf}
+use Rattle.report.specs.declared.Program.the-variants.{Status, Why, MakeMap}
+use Rattle.report.specs.declared.View.{View}
+use Rattle.report.specs.declared.View.the-variants.{Table, Line}
+use Rattle.report.specs.Report.{driveReport, onOutput, onErrors, mapReport, reportOf}
 use Rattle.report.specs.Laws.{input-at}
 
 two-cut : (j : ℕ) (s : List ℕ) → drop 2 (take (suc (suc j)) s) ≡ take j (drop 2 s)
@@ -29,8 +35,8 @@ two-cut j (a ∷ b ∷ s) = refl
 late : (len : ℕ) (image : List ℕ) → ℕ
 late len image = cond (ltb 256 len) 1 (cond (mapGood image) 2 1)
 
-module _ (program : Program) (input : List ℕ) (l : 16642 < length input) where
-  too-much : reportOf program input ≡ refusedLine (late (mapLength input) (imageOf input))
+module _ (view : View) (input : List ℕ) (l : 16642 < length input) where
+  too-much : driveReport view input ≡ refusedLine (late (mapLength input) (imageOf input))
   unfolding late
   too-much =
       let len = mapLength input in
@@ -49,7 +55,7 @@ module _ (program : Program) (input : List ℕ) (l : 16642 < length input) where
       (decided (mapGood (imageOf input))))
       (decided (ltb 256 len))
 
-module _ (program : Program) (input : List ℕ) (k : ℕ) (l : 16642 < k) (h : k ≤ length input) where
+module _ (view : View) (input : List ℕ) (k : ℕ) (l : 16642 < k) (h : k ≤ length input) where
   -- the front that is kept holds the map's length, and the map where it is at most 256 long
   same-length : mapLength (take k input) ≡ mapLength input
   unfolding u16At
@@ -68,7 +74,19 @@ module _ (program : Program) (input : List ℕ) (k : ℕ) (l : 16642 < k) (h : k
       (λ (a : ltb 256 (mapLength input) ≡ false). rw (same-image (mapLength input) (ltb-false _ _ a)))
       (decided (ltb 256 (mapLength input))))
 
-  pub past-any-drive : reportOf program (take k input) ≡ reportOf program input
-  past-any-drive =
+  drive-cut : driveReport view (take k input) ≡ driveReport view input
+  drive-cut =
       let long : length (take k input) ≡ k = length-take-le k input h in
-      too-much program (take k input) (omega arith) ∙ ap refusedLine same-late ∙ sym (too-much program input (omega arith))
+      too-much view (take k input) (omega arith) ∙ ap refusedLine same-late ∙ sym (too-much view input (omega arith))
+
+-- a map's text that is longer than any drive is refused with 16, whatever it holds
+map-cut : (input : List ℕ) → 16642 < length input → mapReport input ≡ onErrors (refusedLine 16)
+unfolding mapReport
+map-cut input l = too-long input 136 (omega arith) (omega arith) (λ number. onErrors (refusedLine number)) (onOutput (planImage (planOf input)))
+
+pub past-any-drive : (program : Program) (input : List ℕ) (k : ℕ) → 16642 < k → k ≤ length input → reportOf program (take k input) ≡ reportOf program input
+past-any-drive Status input k l h = ap onOutput (drive-cut Table input k l h)
+past-any-drive Why input k l h = ap onOutput (drive-cut Line input k l h)
+past-any-drive MakeMap input k l h =
+    let long : length (take k input) ≡ k = length-take-le k input h in
+    map-cut (take k input) (omega arith) ∙ sym (map-cut input (omega arith))

@@ -1,12 +1,13 @@
 // What the desk's programs answer: the bytes that they read go in, the bytes that they print come out
 // in a lent buffer, and so do the lines that they say on standard error. Reading, judging and every
 // printed byte are decided here; the programs only move bytes. The definitions are in `specs/Status`,
-// of both programs together in `specs/Report`; the laws in `specs/Laws` and `specs/Longer`. It rests on
-// `drive`, `reader`, `map`, `partition`, `text` and `wording`, and below them on `cache`, `context`,
-// `endian`, `fuse`, `laws` and `reason`.
+// of all programs together in `specs/Report`; the laws in `specs/Laws` and `specs/Longer`. It rests on
+// `drive`, `reader`, `map`, `plan`, `partition`, `text` and `wording`, and below them on `cache`,
+// `context`, `endian`, `fuse`, `laws` and `reason`.
 use drive::ActiveSlot;
 use partition::State;
 use partition::Survey;
+use plan::Answer;
 ghost use mathlib.Core.Path.{_≡_};
 ghost use mathlib.Core.List.{_++_};
 ghost use Prim.Native.Nat.{_+_, _≤_};
@@ -14,13 +15,32 @@ ghost use lib.ListN.{length, drop};
 ghost use Rattle.laws.specs.Below.{joinBelow};
 ghost use Rattle.drive.specs.Drive.{Whole};
 ghost use Rattle.report.specs.Status.{imageOf, numberAt, inputCells, readingOf, stateName, lineOf, hekLine, tableOf, refusedLine, SmallLine, SmallSlot};
-ghost use Rattle.report.specs.Report.{programName, outputOf, reportOf, failureLine, Printed};
+ghost use Rattle.report.specs.Report.{programName, outputOf, driveReport, mapReport, reportOf, failureLine, Printed, Told};
 ghost use Rattle.laws.specs.Put.{Put};
 
-// The programs: the state of each partition of a drive, and why it offers no HEK.
+// The programs: the state of each partition of a drive, why it offers no HEK, and a map from its text.
 pub enum Program {
     Status,
     Why,
+    MakeMap,
+}
+
+// What is printed of a drive: the table of its partitions, or the line that says why.
+pub enum View {
+    Table,
+    Line,
+}
+
+// Where a program prints: on standard output, or on standard error.
+pub enum Stream {
+    Output,
+    Errors,
+}
+
+// How many bytes a program prints, and where.
+pub struct Report {
+    pub stream: Stream,
+    pub count: usize,
 }
 
 // What the input is: a whole drive, or refused with its number, a byte, which can always be printed.
@@ -145,21 +165,21 @@ fn put_table(out: &mut [u8], image: &[u8], cells: &[u32]) -> usize
     put_hek(out, at, drive::active_in(image, cells))
 }
 
-// Writes what a program prints of a drive.
-fn put_output(out: &mut [u8], program: Program, image: &[u8], cells: &[u32]) -> usize
+// Writes what is printed of a drive.
+fn put_output(out: &mut [u8], view: View, image: &[u8], cells: &[u32]) -> usize
     requires { ⌜ Whole (now image) (now cells) × (448 ≤ length (now out)) ⌝ }
-    ensures { λ r. ⌜ Put 0 (outputOf program (now (image .entry)) (now (cells .entry))) (now (out .entry)) (now (out .exit)) r ⌝ }
+    ensures { λ r. ⌜ Put 0 (outputOf view (now (image .entry)) (now (cells .entry))) (now (out .entry)) (now (out .exit)) r ⌝ }
 {
-    match program {
-        Program::Status => put_table(out, image, cells),
-        Program::Why => wording::put_why(out, image, cells),
+    match view {
+        View::Table => put_table(out, image, cells),
+        View::Line => wording::put_why(out, image, cells),
     }
 }
 
-// Writes what a program prints of the drive that the input holds.
-fn put_drive(out: &mut [u8], program: Program, input: &[u8]) -> usize
+// Writes what is printed of the drive that the input holds.
+fn put_drive(out: &mut [u8], view: View, input: &[u8]) -> usize
     requires { ⌜ (readingOf (now input) ≡ Reading.Drive) × (448 ≤ length (now out)) ⌝ }
-    ensures { λ r. ⌜ Put 0 (outputOf program (imageOf (now (input .entry))) (inputCells (now (input .entry)))) (now (out .entry)) (now (out .exit)) r ⌝ }
+    ensures { λ r. ⌜ Put 0 (outputOf view (imageOf (now (input .entry))) (inputCells (now (input .entry)))) (now (out .entry)) (now (out .exit)) r ⌝ }
 {
     let end = 2 + endian::u16_at(input, 0) as usize;
     let image = &input[2..end];
@@ -167,28 +187,62 @@ fn put_drive(out: &mut [u8], program: Program, input: &[u8]) -> usize
     let count = header.cells as usize;
     let mut numbers = [0u32; 2048];
     read_cells(input, end, count, &mut numbers);
-    put_output(out, program, image, &numbers[..count])
+    put_output(out, view, image, &numbers[..count])
 }
 
-// Everything that a program prints for its input, in the front of the lent buffer, and how many bytes
-// that is. The rest of the buffer keeps its bytes.
-pub fn report_drive(program: Program, input: &[u8], out: &mut [u8; 512]) -> usize
-    ensures { λ r. ⌜ Printed (reportOf program (now (input .entry))) (now (out .entry)) (now (out .exit)) r ⌝ }
+// What is printed for the bytes of a drive, in the front of the lent buffer.
+fn report_drive(view: View, input: &[u8], out: &mut [u8]) -> usize
+    requires { ⌜ 448 ≤ length (now out) ⌝ }
+    ensures { λ r. ⌜ Put 0 (driveReport view (now (input .entry))) (now (out .entry)) (now (out .exit)) r ⌝ }
 {
     match read_input(input) {
         Reading::Refused(number) => put_refused(out, number),
-        Reading::Drive => put_drive(out, program, input),
+        Reading::Drive => put_drive(out, view, input),
+    }
+}
+
+// What is printed for a map's text, in the front of the lent buffer: its image, or the refusal.
+fn report_map(input: &[u8], out: &mut [u8]) -> Report
+    requires { ⌜ 448 ≤ length (now out) ⌝ }
+    ensures { λ r. ⌜ Told (mapReport (now (input .entry))) (now (out .entry)) (now (out .exit)) r ⌝ }
+{
+    match plan::write_map(input, &mut out[..136]) {
+        Answer::Written(bytes) => Report {
+            stream: Stream::Output,
+            count: bytes as usize,
+        },
+        Answer::Refused(number) => Report {
+            stream: Stream::Errors,
+            count: put_refused(out, number as u8),
+        },
+    }
+}
+
+// Everything that a program prints for its input, in the front of the lent buffer, how many bytes that
+// is, and where they go. The rest of the buffer keeps its bytes.
+pub fn report_on(program: Program, input: &[u8], out: &mut [u8; 512]) -> Report
+    ensures { λ r. ⌜ Told (reportOf program (now (input .entry))) (now (out .entry)) (now (out .exit)) r ⌝ }
+{
+    let view = match program {
+        Program::Status => View::Table,
+        Program::Why => View::Line,
+        Program::MakeMap => return report_map(input, out),
+    };
+    Report {
+        stream: Stream::Output,
+        count: report_drive(view, input, out),
     }
 }
 
 // Writes a program's name.
 fn put_program(out: &mut [u8], program: Program) -> usize
-    requires { ⌜ 6 ≤ length (now out) ⌝ }
-    ensures { λ r. ⌜ Put 0 (programName program) (now (out .entry)) (now (out .exit)) r × (r ≤ 6) ⌝ }
+    requires { ⌜ 8 ≤ length (now out) ⌝ }
+    ensures { λ r. ⌜ Put 0 (programName program) (now (out .entry)) (now (out .exit)) r × (r ≤ 8) ⌝ }
 {
     match program {
         Program::Status => text::put(out, 0, b"status"),
         Program::Why => text::put(out, 0, b"why"),
+        Program::MakeMap => text::put(out, 0, b"make_map"),
     }
 }
 

@@ -5,14 +5,20 @@ use borrow.Author.Needs.{needs}
 use Rattle.desk.proofs.print_report.Statement.{statement}
 use Rattle.desk.proofs.print_report.Tie as tie
 
-report-drive-requires : tie.Need-report-drive-requires
-report-drive-requires c κs = search needs
+report-on-requires : tie.Need-report-on-requires
+report-on-requires c κs = search needs
+
+enum-told : tie.Need-enum-told
+enum-told c = search needs
+
+enum-told-2 : tie.Need-enum-told-2
+enum-told-2 c = search needs
 
 array-share-prefix-out : tie.Need-array-share-prefix-out
 array-share-prefix-out c = search needs
 
 slice-aggregate-write-all : tie.Need-slice-aggregate-write-all
-slice-aggregate-write-all c = simp length-take (omega (arith, c .before .report-drive .ensures .fits))
+slice-aggregate-write-all c = simp length-take (omega (arith, c .before .before .report-on .ensures .print .fits))
 
 write-all-requires : tie.Need-write-all-requires
 write-all-requires c κs = search needs
@@ -30,7 +36,9 @@ pub print-report-spec : {M : Type 1} → statement M
 print-report-spec =
     tie.close
     (tie.spec
-    report-drive-requires
+    report-on-requires
+    enum-told
+    enum-told-2
     array-share-prefix-out
     slice-aggregate-write-all
     write-all-requires

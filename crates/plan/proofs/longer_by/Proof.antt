@@ -1,5 +1,4 @@
 -- `plan::longer_by` meets its contract: the three cases of the definition. Assumes nothing.
-use native.Mathlib.Omega.{arith}
 use borrow.Author.Tests.{eq-eqb, ne-eqb}
 use Rattle.plan.specs.Laws.{digit-range}
 use borrow.Author.Needs.{needs}

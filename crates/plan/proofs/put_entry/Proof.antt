@@ -1,5 +1,4 @@
 -- `plan::put_entry` meets its contract: first and cells, then kind and flags as one u16. Assumes nothing.
-use native.Mathlib.Omega.{arith}
 use Rattle.laws.specs.Put.{then, retext}
 use Rattle.plan.specs.Images.{entry-is}
 use borrow.Author.Needs.{needs}

@@ -1,16 +1,16 @@
 -- `plan::put_image` meets its contract: the loop's invariant: the entries below `i` are written behind the header, and all of them fit. Assumes nothing.
 use Prim.Native.Nat.{_+_, _-_, _*_, _≤_}
-use mathlib.Core.Path.{_≡_, refl, sym, ap, _∙_}
+use mathlib.Core.Path.{_≡_, refl, ap, _∙_}
 use mathlib.Core.Bool.{true, not}
 use native.Mathlib.Omega.{arith}
-use lib.ListN.{length, take}
+use lib.ListN.{take}
 use borrow.Author.Tests.{ltb-false}
 use borrow.Author.Needs.{needs}
 use Rattle.laws.specs.Tests.{neither}
-use Rattle.laws.specs.Below.{allBelow, all-step, all-fails}
+use Rattle.laws.specs.Below.{allBelow, all-step}
 use Rattle.laws.specs.Put.{Put, then, retext, nothing}
 use Rattle.plan.specs.Reading.{planBy}
-use Rattle.plan.specs.Images.{fitsAt, entriesBelow, entries-start, entries-more, kept-fits, kept-more, not-imaged, imaged}
+use Rattle.plan.specs.Images.{fitsAt, entriesBelow, entries-start, kept-fits, kept-more, not-imaged, imaged}
 use Rattle.plan.proofs.put_image.Statement.{statement}
 use Rattle.plan.proofs.put_image.Tie as tie
 
@@ -39,7 +39,12 @@ unfolding allBelow
 loop-holds c =
     let header = c .before .before .put-header .ensures in
     let start = c .before .before .before .before .before .before .before .before in
-    (omega arith, header .is-next, refl, retext (entries-start (planBy (take (2 + 4 * start .args .lines) (start .args .numbers .now)))) (nothing _ _ (omega (arith, header .is-next, header .same, start .pre .0))))
+    let plan = planBy (take (2 + 4 * start .args .lines) (start .args .numbers .now)) in (
+      omega arith,
+      header .is-next,
+      refl,
+      retext (entries-start plan) (nothing _ _ (omega (arith, header .is-next, header .same, start .pre .0))),
+    )
 
 mul-k : tie.Need-mul-k Inv-loop μ-loop
 mul-k c = search needs
@@ -98,8 +103,11 @@ put-entry-requires c κs =
     let test = c .before .before .before .before .before .before in
     let loop = test .before .loop in
     let start = test .before .before .before .before .before .before .before .before .before .before in
-    let header = test .before .before .before .before .put-header .ensures in
-    (omega (arith, loop .inv .1, test .loop-test .taken, loop .inv .3 .same, header .same, start .pre .0, start .pre .2), ltb-false _ _ (fits .0), ltb-false _ _ (fits .1))
+    let header = test .before .before .before .before .put-header .ensures in (
+      omega (arith, loop .inv .1, test .loop-test .taken, loop .inv .3 .same, header .same, start .pre .0, start .pre .2),
+      ltb-false _ _ (fits .0),
+      ltb-false _ _ (fits .1),
+    )
 
 add-i : tie.Need-add-i Inv-loop μ-loop
 add-i c = search needs
@@ -116,8 +124,12 @@ loop-again c =
     let start = test .before .before .before .before .before .before .before .before .before .before in
     let numbers = start .args .numbers .now in
     let here = kept-fits numbers (start .args .lines) (start .pre .1) (start .pre .2) (loop .i) (test .loop-test .taken) ∙ ap not (fits .if1 .left) in
-    let more = kept-more numbers (start .args .lines) (start .pre .1) (start .pre .2) (loop .i) (test .loop-test .taken) in
-    (omega (arith, test .loop-test .taken), omega (arith, entry .put-entry .ensures .is-next, loop .inv .1), all-step _ _ (loop .inv .2) here, retext more (then (loop .inv .3) (entry .put-entry .ensures)))
+    let more = kept-more numbers (start .args .lines) (start .pre .1) (start .pre .2) (loop .i) (test .loop-test .taken) in (
+      omega (arith, test .loop-test .taken),
+      omega (arith, entry .put-entry .ensures .is-next, loop .inv .1),
+      all-step _ _ (loop .inv .2) here,
+      retext more (then (loop .inv .3) (entry .put-entry .ensures)),
+    )
 
 same-length-2 : tie.Need-same-length-2 Inv-loop μ-loop
 same-length-2 c = search needs

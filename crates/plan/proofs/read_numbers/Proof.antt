@@ -6,7 +6,8 @@ use native.Mathlib.Omega.{arith}
 use lib.ListN.{length, getD, take}
 use lib.Seq.{take-all}
 use Rattle.plan.specs.Reading.{readOf}
-use Rattle.plan.specs.Steps.{Stands, digit-stands, digit-breaks, end-stands, end-breaks, value-most, ended, read-more, read-breaks, kept-length, formless, ends-whole, ends-formless}
+use Rattle.plan.specs.Steps.{Stands, digit-stands, digit-breaks, end-stands, end-breaks, value-most, ended, read-more, read-breaks}
+use Rattle.plan.specs.Steps.{kept-length, formless, ends-whole, ends-formless}
 use borrow.Author.Needs.{needs}
 use Rattle.plan.proofs.read_numbers.Statement.{statement}
 use Rattle.plan.proofs.read_numbers.Tie as tie
@@ -31,9 +32,10 @@ is-digit-requires c κs = search needs
 longer-by-requires : tie.Need-longer-by-requires Inv-loop μ-loop
 longer-by-requires c κs =
     let top = c .before .before .before .before in
-    let loop = top .loop in
-    (value-most (readOf (take (loop .k) (top .before .before .before .args .text .now))) _ _ (loop .numbers) (loop .inv .3),
-    sym (c .before .is-digit .ensures) ∙ c .if1 .taken)
+    let loop = top .loop in (
+      value-most (readOf (take (loop .k) (top .before .before .before .args .text .now))) _ _ (loop .numbers) (loop .inv .3),
+      sym (c .before .is-digit .ensures) ∙ c .if1 .taken,
+    )
 
 same-length : tie.Need-same-length Inv-loop μ-loop
 same-length c = search needs
@@ -69,7 +71,8 @@ keep-requires : tie.Need-keep-requires Inv-loop μ-loop
 keep-requires c κs =
     let other = c .before .before in
     let top = other .before .before .before .before .before in
-    (top .loop .inv .2, ended (top .loop .value) (getD (top .before .before .before .args .text .now) (top .loop .k) 0) (top .loop .count) (rw (other .byte-after .ensures) at (c .before .if3 .left)) .0)
+    let byte = getD (top .before .before .before .args .text .now) (top .loop .k) 0 in
+    (top .loop .inv .2, ended (top .loop .value) byte (top .loop .count) (rw (other .byte-after .ensures) at (c .before .if3 .left)) .0)
 
 add-count : tie.Need-add-count Inv-loop μ-loop
 add-count c = search needs
@@ -98,7 +101,8 @@ loop-again c =
     let here = sym (c .before .is-digit .ensures) ∙ w .0 .left in
     let end = ended (loop .value) byte (loop .count) (rw (w .1 .ensures) at (w .2 .left)) in
     let stands = end-stands (loop .count) (loop .value) (loop .numbers) byte s (loop .inv .2) (loop .inv .3) here (end .0) (end .1) in
-    rw (w .7, w .8, w .9, more, w .4 .ensures) (far, omega (arith, loop .inv .1), kept-length (loop .numbers) (loop .count) (loop .value) ∙ loop .inv .2, stands))
+    let long = kept-length (loop .numbers) (loop .count) (loop .value) ∙ loop .inv .2 in
+    rw (w .7, w .8, w .9, more, w .4 .ensures) (far, omega (arith, loop .inv .1), long, stands))
     (c .if1 .came)
 
 same-length-3 : tie.Need-same-length-3 Inv-loop μ-loop

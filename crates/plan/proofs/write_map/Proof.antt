@@ -1,7 +1,6 @@
 -- `plan::write_map` meets its contract: each refusal is that of the first test that applies, and the image is judged last. Assumes nothing.
 use Prim.Native.Nat.{_+_, _*_, _/_}
 use mathlib.Core.Path.{_≡_, sym, _∙_}
-use native.Mathlib.Omega.{arith}
 use lib.ListN.{take}
 use borrow.Author.Tests.{not-true, not-false}
 use borrow.Author.Needs.{needs}
@@ -61,8 +60,8 @@ returns-4 c =
     let few = image .before .before .before in
     let short = few .before .before in
     let count = short .before .before in
-    found-large _ _ _ (told count) (sym (short .is-short .ensures) ∙ few .before .if1 .left) _ (count .before .before .before .read-numbers .ensures .1) (few .if2 .left)
-    _ _ _ (image .put-image .ensures) (not-true _ (c .if3 .taken))
+    found-large _ _ _ (told count) (sym (short .is-short .ensures) ∙ few .before .if1 .left) _
+    (count .before .before .before .read-numbers .ensures .1) (few .if2 .left) _ _ _ (image .put-image .ensures) (not-true _ (c .if3 .taken))
 
 mul-size : tie.Need-mul-size
 mul-size c = search needs
@@ -78,14 +77,16 @@ found : (c : tie.Else3) →
     let start = c .before .before .before .before .before .before .before .before .before .before .before .before .before .before .before .before in
     let count = c .before .before .before .before .before .before .before .before .before .count .given .0 .0 in
     let numbers = c .before .before .before .before .before .before .before .before .before .before .before .before .read-numbers .last .1 .0 in
-    Found (start .args .text .now) (start .args .out .now) (planBy (take (2 + 4 * (count / 4)) numbers)) (8 + 8 * (count / 4)) (take (8 + 8 * (count / 4)) (c .before .before .put-image .last .0))
+    let plan = planBy (take (2 + 4 * (count / 4)) numbers) in
+    let size = 8 + 8 * (count / 4) in
+    Found (start .args .text .now) (start .args .out .now) plan size (take size (c .before .before .put-image .last .0))
 found c =
     let image = c .before .before in
     let few = image .before .before .before in
     let short = few .before .before in
     let count = short .before .before in
-    found-image _ _ _ (told count) (sym (short .is-short .ensures) ∙ few .before .if1 .left) _ (count .before .before .before .read-numbers .ensures .1) (few .if2 .left)
-    _ _ _ (image .put-image .ensures) (not-false _ (c .if3 .left))
+    found-image _ _ _ (told count) (sym (short .is-short .ensures) ∙ few .before .if1 .left) _
+    (count .before .before .before .read-numbers .ensures .1) (few .if2 .left) _ _ _ (image .put-image .ensures) (not-false _ (c .if3 .left))
 
 slice-aggregate-is-good : tie.Need-slice-aggregate-is-good
 slice-aggregate-is-good c = sym (found (c .before) .long)

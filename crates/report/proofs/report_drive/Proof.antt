@@ -20,15 +20,23 @@ enum-told c = search needs
 put-drive-requires : tie.Need-put-drive-requires
 put-drive-requires c κs = (sym (c .before .before .before .read-input .ensures) ∙ c .before .enum-told .given .1, search needs)
 
+same-length : tie.Need-same-length
+same-length c = search needs
+
 returns : tie.Need-returns
 returns c =
-    let told = c .before .before .before in
-    printed-by _ _ _ _ _ _ (sym (told .before .before .read-input .ensures) ∙ told .number .given .1) (c .put-refused .ensures)
+    let print = c .before .before in
+    let told = print .before .before .before in
+    printed-by _ _ _ _ _ _ (sym (told .before .before .read-input .ensures) ∙ told .number .given .1) (print .put-refused .ensures)
+
+same-length-2 : tie.Need-same-length-2
+same-length-2 c = search needs
 
 returns-2 : tie.Need-returns-2
 returns-2 c =
-    let told = c .before .before in
-    printed-by _ _ _ _ _ _ (sym (told .before .before .read-input .ensures) ∙ told .enum-told .given .1) (c .put-drive .ensures)
+    let print = c .before .before in
+    let told = print .before .before in
+    printed-by _ _ _ _ _ _ (sym (told .before .before .read-input .ensures) ∙ told .enum-told .given .1) (print .put-drive .ensures)
 
 pub report-drive-spec : {M : Type 1} → statement M
 report-drive-spec =
@@ -39,5 +47,7 @@ report-drive-spec =
     put-refused-requires
     enum-told
     put-drive-requires
+    same-length
     returns
+    same-length-2
     returns-2)
