@@ -1,4 +1,5 @@
--- What the reading of standard input promises. Which bytes a read brings no contract of the kit's says. Assumes nothing.
+-- What the reading of standard input promises, and which file a stream is. Which bytes a read brings no contract of the kit's says.
+-- Assumes nothing.
 use Prim.Native.Nat.{ℕ, _≤_}
 use mathlib.Core.Path.{_≡_, sym, ap}
 use mathlib.Core.Bool.{true, false, false≢true}
@@ -10,6 +11,8 @@ use lib.Dec.{T}
 use lib.Signed.{ltZ, nonNeg}
 use borrow.Author.Tests.{ltb-true}
 use Rattle.libc.specs.Io.{Moved}
+use Rattle.report.specs.declared.Stream.{Stream}
+use Rattle.report.specs.declared.Stream.the-variants.{Output, Errors}
 use Rattle.desk.specs.declared.Intake.{Intake}
 use Rattle.desk.specs.declared.Intake.the-variants.{Bytes, Unread}
 
@@ -22,6 +25,11 @@ intakeOf (negsuc _) = Unread
 abbrev pub Within : Intake → (buffer : List ℕ) → Type 0
 Within (Bytes count) buffer = count ≤ length buffer
 Within Unread buffer = Unit {0}
+
+-- the file of a stream, as every Unix numbers them: standard output is 1, standard error 2
+abbrev pub fileOf : Stream → ℤ
+fileOf Output = pos 1
+fileOf Errors = pos 2
 
 -- a read brings no more bytes than it was lent room for
 pub brought : (room count : ℕ) (got : ℤ) → Moved room got → Bytes count ≡ intakeOf got → count ≤ room

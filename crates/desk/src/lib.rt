@@ -1,9 +1,10 @@
 // What the desk's programs do, each by its name: standard input is read, and what `report` makes of it
 // goes to the stream that `report` says. Bytes are only moved here, and `report` decides every one of
 // them. What is not read of a longer input changes nothing: by then the input is longer than any drive
-// and any map's text (`report`'s law `past-any-drive`). Input that cannot be read and output that cannot be written are told on
-// standard error, since a program has no exit status to give: without that line they would pass for an
-// empty input and for a silent success. It rests on `report`, and on `io` and `libc` of the kit.
+// and any map's text (`report`'s law `past-any-input`). Input that cannot be read and output that
+// cannot be written are told on standard error, since a program has no exit status to give: without
+// that line they would pass for an empty input and for a silent success. It rests on `report`, and on
+// `io` and `libc` of the kit.
 use libc::STDERR_FILENO;
 use libc::STDIN_FILENO;
 use libc::STDOUT_FILENO;
@@ -11,7 +12,7 @@ use report::Failure;
 use report::Program;
 use report::Stream;
 ghost use mathlib.Core.Path.{_≡_};
-ghost use Rattle.desk.specs.Intake.{intakeOf, Within};
+ghost use Rattle.desk.specs.Intake.{intakeOf, Within, fileOf};
 
 // What came of reading: so many bytes, or that it failed.
 enum Intake {
@@ -58,17 +59,24 @@ fn tell(program: Program, failure: Failure) {
     io::write_all(STDERR_FILENO, &line[..count]);
 }
 
-// Prints what `report` makes of the input.
+// The file of a stream.
+fn file_of(stream: Stream) -> i32
+    ensures { λ r. ⌜ r ≡ fileOf stream ⌝ }
+{
+    match stream {
+        Stream::Output => STDOUT_FILENO,
+        Stream::Errors => STDERR_FILENO,
+    }
+}
+
+// Prints what `report` makes of the input. A refusal that standard error does not take is lost: there
+// is no other place to say so.
 fn print_report(program: Program, input: &[u8]) {
     let mut out = [0u8; 512];
     let report = report::report_on(program, input, &mut out);
     let count = report.count;
     let stream = report.stream;
-    let file = match stream {
-        Stream::Output => STDOUT_FILENO,
-        Stream::Errors => STDERR_FILENO,
-    };
-    if !io::write_all(file, &out[..count]) {
+    if !io::write_all(file_of(stream), &out[..count]) {
         tell(program, Failure::Output);
     }
 }

@@ -19,11 +19,18 @@ u16At s k = byteAt s k + 256 * byteAt s (k + 1)
 unfoldable pub u32At : List ℕ → ℕ → ℕ
 u32At s k = u16At s k + 65536 * u16At s (k + 2)
 
+-- the two bytes of a u16, the lower first
+abbrev pub bytes2 : ℕ → List ℕ
+bytes2 v = v % 256 ∷ v / 256 ∷ []
+
 -- the four bytes of a u32, the lowest first
 abbrev pub bytes4 : ℕ → List ℕ
 bytes4 v = v % 256 ∷ v / 256 % 256 ∷ v / 65536 % 256 ∷ v / 16777216 ∷ []
 
 -- what is written reads back
+pub reads-back-2 : (v : ℕ) → v % 256 + 256 * (v / 256) ≡ v
+reads-back-2 v = omega arith
+
 pub reads-back : (v : ℕ) (rest : List ℕ) → u32At (bytes4 v ++ rest) 0 ≡ v
 unfolding u32At u16At
 reads-back v rest = omega arith

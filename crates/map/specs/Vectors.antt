@@ -7,8 +7,8 @@ use mathlib.Core.List.{List, [], _∷_, _++_, map}
 use lib.ListN.{replicate}
 use Rattle.laws.specs.Tests.{every}
 use Rattle.laws.specs.Below.{allBelow}
-use Rattle.endian.specs.Endian.{u16At}
-use Rattle.map.specs.Image.{u16, entry, image}
+use Rattle.endian.specs.Endian.{u16At, bytes2}
+use Rattle.map.specs.Image.{entry, image}
 use Rattle.map.specs.Map.{headerGood, fillerGood, entryGood, placeGood, mapGood}
 
 -- entries of four cells, one after the other
@@ -37,7 +37,7 @@ broken =
     -- a filler byte that is not zero: the first, the last
     ∷ image 2 12 60 10 (1 ∷ 0 ∷ []) two ∷ image 2 12 60 10 (0 ∷ 1 ∷ []) two
     -- a byte too many, one too few
-    ∷ image 2 12 60 8 [] (two ++ (0 ∷ [])) ∷ image 1 12 60 8 [] (u16 0 ++ u16 4 ++ (0 ∷ 0 ∷ 0 ∷ []))
+    ∷ image 2 12 60 8 [] (two ++ (0 ∷ [])) ∷ image 1 12 60 8 [] (bytes2 0 ++ bytes2 4 ++ (0 ∷ 0 ∷ 0 ∷ []))
     -- first odd, n odd, n 2, n 4 zeroizable
     ∷ one (entry 1 4 0 0) ∷ one (entry 0 5 0 0) ∷ one (entry 0 2 0 0) ∷ one (entry 0 4 0 1)
     -- overlap by two, end past C, descending
@@ -48,7 +48,7 @@ broken =
     -- life cycle zeroizable, secret in kind 1, slot without secret, slot without zeroizable
     ∷ one (entry 0 6 2 1) ∷ one (entry 0 6 1 2) ∷ one (entry 0 6 0 5) ∷ one (entry 0 6 0 6)
     -- each of the two zero bytes
-    ∷ one (u16 0 ++ u16 6 ++ (0 ∷ 7 ∷ 1 ∷ 0 ∷ [])) ∷ one (u16 0 ++ u16 6 ++ (0 ∷ 7 ∷ 0 ∷ 1 ∷ []))
+    ∷ one (bytes2 0 ++ bytes2 6 ++ (0 ∷ 7 ∷ 1 ∷ 0 ∷ [])) ∷ one (bytes2 0 ++ bytes2 6 ++ (0 ∷ 7 ∷ 0 ∷ 1 ∷ []))
     ∷ []
 
 -- the edges on the good side

@@ -1,7 +1,7 @@
 -- What is answered, by what the code has found: which test gives the number, and the plan by the numbers that were kept. Assumes nothing.
 use Prim.Native.Nat.{ℕ, _+_, _*_, _/_, _%_, _≤_, _<_}
 use mathlib.Core.Path.{_≡_, refl, sym, ap, _∙_}
-use mathlib.Core.Bool.{Bool, true, false, cond}
+use mathlib.Core.Bool.{Bool, true, false, cond, not}
 use mathlib.Core.List.{List}
 use native.Mathlib.Omega.{arith}
 use native.Mathlib.Nat.{zero-add}
@@ -9,15 +9,16 @@ use lib.ListN.{length, take}
 use lib.Seq.{take-all, take-at}
 use lib.Dec.{ltb}
 use borrow.Author.Tests.{eqb-true, ltb-false}
-use Rattle.laws.specs.Refusals.{GivenFirst, given-first}
+use Rattle.laws.specs.Refusals.{Past, testAt, refusalAt, refused-at, past-all, GivenFirst, given-first}
 use Rattle.context.specs.State.{outcome, refusing}
 use Rattle.map.specs.Map.{mapGood}
+use Rattle.plan.specs.declared.Answer.{Answer}
 use Rattle.plan.specs.declared.Answer.the-variants.{Written, Refused}
 use Rattle.plan.specs.declared.Reading.the-variants.{Whole, Formless}
 use Rattle.plan.specs.Form.{Plan}
 use Rattle.plan.specs.Reading.{Progress, between, within, broken, readOf, numbersIn, whole, planBy, hasForm, planOf}
 use Rattle.plan.specs.Steps.{Keeps, readingOf}
-use Rattle.plan.specs.Writing.{imageOf, roomFor, writingTests, inFront, writingOf}
+use Rattle.plan.specs.Writing.{imageOf, writingTests, inFront, writingOf}
 use Rattle.plan.specs.Images.{entries-count, Imaged}
 use Rattle.plan.specs.Fields.{image-length, too-many, too-large}
 
@@ -32,7 +33,7 @@ module _ (t : List ℕ) where
   told-whole true n count e = (refl, cc)
   told-whole false n count e = absurd (let z : _≡_ {A = ℕ} 0 1 = cc in omega arith)
 
-  pub no-form : Formless ≡ readingOf t → hasForm t ≡ false
+  no-form : Formless ≡ readingOf t → hasForm t ≡ false
   unfolding hasForm
   no-form e = told-formless (whole (readOf t)) _ e
 
@@ -72,44 +73,50 @@ module _ (t before : List ℕ) where
   unfolding writingOf
   writing-first = given-first (refusing Refused before) (inFront (imageOf (planOf t)) before) (writingTests t (length before))
 
-  pub refused-form : hasForm t ≡ false → refusing Refused before 16 ≡ writingOf t before
+  -- which of the tests gives the number, by the test's place, and that none does
+  pub writing-at : (k : ℕ) → Past k (writingTests t (length before)) → testAt (writingTests t (length before)) k ≡ true
+      → refusing Refused before (refusalAt (writingTests t (length before)) k) ≡ writingOf t before
   unfolding writingOf
-  refused-form e = rw e
+  writing-at k = refused-at (refusing Refused before) (inFront (imageOf (planOf t)) before) k (writingTests t (length before))
 
-  module _ (form : hasForm t ≡ true) where
-    pub refused-room : ltb (length before) (roomFor (planOf t)) ≡ true → refusing Refused before 16 ≡ writingOf t before
-    unfolding writingOf
-    refused-room e = rw (form, e)
+  pub writing-past : Past 3 (writingTests t (length before)) → inFront (imageOf (planOf t)) before ≡ writingOf t before
+  unfolding writingOf
+  writing-past = past-all (refusing Refused before) (inFront (imageOf (planOf t)) before) (writingTests t (length before))
 
-    module _ (room : ltb (length before) (roomFor (planOf t)) ≡ false) where
-      pub refused-map : mapGood (imageOf (planOf t)) ≡ false → refusing Refused before 1 ≡ writingOf t before
-      unfolding writingOf
-      refused-map m = rw (form, room, m)
+-- an answer is not both
+pub not-written : {a : Answer} {n m : ℕ} → a ≡ Refused n → a ≡ Written m → ⊥
+not-written e f = let z : _≡_ {A = ℕ} 0 1 = cc in omega arith
 
-      pub accepted : mapGood (imageOf (planOf t)) ≡ true → inFront (imageOf (planOf t)) before ≡ writingOf t before
-      unfolding writingOf
-      accepted m = rw (form, room, m)
-
--- the image of a plan, of so many bytes, was found: there is room for it, and what is answered once it is judged and written again
-pub record Found (t before : List ℕ) (plan : Plan) (size : ℕ) (image : List ℕ) : Type 0 where
-  pub long : length image ≡ size
+-- what was found of the image of a plan, of so many bytes: there is room for it; a number in it was too large; or it is there, and what
+-- is answered once it is judged and written again
+pub record Found (t before : List ℕ) (plan : Plan) (size : ℕ) (image : List ℕ) (there : Bool) : Type 0 where
   pub room : size ≤ length before
-  pub bad : mapGood image ≡ false → refusing Refused before 1 ≡ writingOf t before
-  pub good : mapGood image ≡ true → {after : List ℕ} {again : Bool} → Imaged plan before after again
+  pub large : there ≡ false → refusing Refused before 1 ≡ writingOf t before
+  pub long : there ≡ true → length image ≡ size
+  pub bad : there ≡ true → mapGood image ≡ false → refusing Refused before 1 ≡ writingOf t before
+  pub good : there ≡ true → mapGood image ≡ true → {after : List ℕ} {again : Bool} → Imaged plan before after again
       → outcome (Written size) after ≡ writingOf t before
 
--- the same by what the code has found: so many numbers, the room, and those that were kept
+-- the same by what the code has found: no form
+pub found-formless : (t before : List ℕ) → Formless ≡ readingOf t → refusing Refused before 16 ≡ writingOf t before
+found-formless t before e = writing-at t before 0 tt (ap not (no-form t e))
+
+-- so many numbers, the room, and those that were kept
 module _ (t before : List ℕ) (count : ℕ) (e : Whole count ≡ readingOf t) where
   pub found-short : ltb (length before) (8 + 8 * (count / 4)) ≡ true → refusing Refused before 16 ≡ writingOf t before
-  found-short s = refused-room t before (has-form t count e) (rw (lines-told t count e) s)
+  found-short s = writing-at t before 1 (ap not (has-form t count e), tt) (rw (lines-told t count e) s)
 
   module _ (s : ltb (length before) (8 + 8 * (count / 4)) ≡ false) where
-    room : ltb (length before) (roomFor (planOf t)) ≡ false
-    room = rw (lines-told t count e) s
+    passed : Past 2 (writingTests t (length before))
+    passed = (ap not (has-form t count e), (rw (lines-told t count e) s, tt))
+
+    -- so the rules decide
+    broken-rule : mapGood (imageOf (planOf t)) ≡ false → refusing Refused before 1 ≡ writingOf t before
+    broken-rule m = writing-at t before 2 passed (ap not m)
 
     pub found-many : 66 < count → refusing Refused before 1 ≡ writingOf t before
     found-many l =
-        refused-map t before (has-form t count e) room (too-many (planOf t) (omega (arith, lines-told t count e, count-is t count e)))
+        broken-rule (too-many (planOf t) (omega (arith, lines-told t count e, count-is t count e)))
 
     -- the numbers that were kept, and what was written of their image
     module _ (numbers : List ℕ) (k : Keeps (readOf t) numbers) (l : count ≤ 66) (zeros image : List ℕ) (r : Bool)
@@ -120,21 +127,19 @@ module _ (t before : List ℕ) (count : ℕ) (e : Whole count ≡ readingOf t) w
       is : planOf t ≡ plan
       is = plan-kept t count e numbers k l
 
-      pub found-large : r ≡ false → refusing Refused before 1 ≡ writingOf t before
-      found-large n = refused-map t before (has-form t count e) room (rw is (too-large _ (sym (i .0) ∙ n)))
+      long : length (imageOf (planOf t)) ≡ 8 + 8 * (count / 4)
+      long = image-length (planOf t) ∙ rw (lines-told t count e)
 
-      module _ (y : r ≡ true) where
-        long : length (imageOf (planOf t)) ≡ 8 + 8 * (count / 4)
-        long = image-length (planOf t) ∙ rw (lines-told t count e)
+      written : r ≡ true → take (8 + 8 * (count / 4)) image ≡ imageOf (planOf t)
+      written y = rw (i .1 y .bytes, ← is) (take-at (imageOf (planOf t)) _ (8 + 8 * (count / 4)) long)
 
-        written : take (8 + 8 * (count / 4)) image ≡ imageOf (planOf t)
-        written = rw (i .1 y .bytes, ← is) (take-at (imageOf (planOf t)) _ (8 + 8 * (count / 4)) long)
-
-        pub found-image : Found t before plan (8 + 8 * (count / 4)) (take (8 + 8 * (count / 4)) image)
-        found-image = record {
-          long = ap length written ∙ long;
-          room = ltb-false _ _ s;
-          bad = λ m. refused-map t before (has-form t count e) room (rw written at m);
-          good = λ m j. rw (← long, j .1 (j .0 ∙ sym (i .0) ∙ y) .bytes, zero-add, ← is)
-              (accepted t before (has-form t count e) room (rw written at m));
-        }
+      pub found : Found t before plan (8 + 8 * (count / 4)) (take (8 + 8 * (count / 4)) image) r
+      found = record {
+        room = ltb-false _ _ s;
+        large = λ n. broken-rule (rw is (too-large _ (sym (i .0) ∙ n)));
+        long = λ y. ap length (written y) ∙ long;
+        bad = λ y m. broken-rule (rw (written y) at m);
+        good = λ y m j. let keeps : mapGood (imageOf (planOf t)) ≡ true = rw (written y) at m in
+            rw (← long, j .1 (j .0 ∙ sym (i .0) ∙ y) .bytes, zero-add, ← is)
+            (writing-past t before (passed .0, (passed .1 .0, (ap not keeps, tt))));
+      }

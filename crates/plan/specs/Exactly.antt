@@ -3,7 +3,7 @@
 use Prim.Native.Nat.{ℕ, _≤_, _<_}
 use mathlib.Core.Path.{_≡_, refl, sym, ap, subst, _∙_}
 use mathlib.Core.Logic.{_⊎_, inl, inr, ⊎-elim, _↔_}
-use mathlib.Core.Bool.{true, false, false≢true}
+use mathlib.Core.Bool.{true, false, not, false≢true}
 use mathlib.Core.List.{List, _++_}
 use native.Mathlib.Omega.{arith}
 use lib.ListN.{length, take, drop, length-append, length-drop}
@@ -22,7 +22,7 @@ use Rattle.plan.specs.Writing.{imageOf, roomFor, inFront, writingOf}
 use Rattle.plan.specs.Laws.{formed, form-has}
 use Rattle.plan.specs.Fields.{image-length, image-header}
 use Rattle.plan.specs.Valid.{Valid, also-good, good-valid}
-use Rattle.plan.specs.Answers.{refused-form, refused-room, refused-map, accepted}
+use Rattle.plan.specs.Answers.{writing-at, writing-past, not-written}
 
 -- ---- the claim
 
@@ -81,29 +81,26 @@ module _ (t before : List ℕ) where
       ⊎-elim
       (λ (f : hasForm t ≡ true).
       ⊎-elim
-      (λ (s : ltb (length before) (roomFor (planOf t)) ≡ true). subst Way (refused-room t before f s) (short (planOf t) (formed t f) (ltb-true _ _ s)))
+      (λ (s : ltb (length before) (roomFor (planOf t)) ≡ true).
+      subst Way (writing-at t before 1 (ap not f, tt) s) (short (planOf t) (formed t f) (ltb-true _ _ s)))
       (λ (s : ltb (length before) (roomFor (planOf t)) ≡ false).
       let ready : Ready t before (planOf t) = (formed t f, ltb-false _ _ s) in
       ⊎-elim
-      (λ (m : mapGood (imageOf (planOf t)) ≡ true). subst Way (accepted t before f s m) (good (planOf t) ready m))
-      (λ (m : mapGood (imageOf (planOf t)) ≡ false). subst Way (refused-map t before f s m) (bad (planOf t) ready m))
+      (λ (m : mapGood (imageOf (planOf t)) ≡ true). subst Way (writing-past t before (ap not f, (s, (ap not m, tt)))) (good (planOf t) ready m))
+      (λ (m : mapGood (imageOf (planOf t)) ≡ false). subst Way (writing-at t before 2 (ap not f, (s, tt)) (ap not m)) (bad (planOf t) ready m))
       (decided (mapGood (imageOf (planOf t)))))
       (decided (ltb (length before) (roomFor (planOf t)))))
-      (λ (f : hasForm t ≡ false). subst Way (refused-form t before f) (formless (λ p g. false≢true (sym f ∙ form-has t p g .0))))
+      (λ (f : hasForm t ≡ false). subst Way (writing-at t before 0 tt (ap not f)) (formless (λ p g. false≢true (sym f ∙ form-has t p g .0))))
       (decided (hasForm t))
 
   -- a map with the fields of a plan, and its image with E = 8
   no-map : (p : Plan) → mapGood (imageOf p) ≡ false → SomeMap p → ⊥
   no-map p m v = false≢true (sym m ∙ also-good (v .0) p (v .1 .good) (v .1 .reads))
 
-  -- an answer is not both
-  not-both : {a : Answer} {n m : ℕ} → a ≡ Refused n → a ≡ Written m → ⊥
-  not-both e f = let z : _≡_ {A = ℕ} 0 1 = cc in omega arith
-
   exactly : (o : Outcome Answer (List ℕ)) → Way o → (p : Plan) → Ready t before p → ((n : ℕ) × (o .told ≡ Written n)) ↔ SomeMap p
   exactly o (formless none) p r = absurd (none p (r .0))
   exactly o (short q f s) p r = absurd (let e = ap roomFor (one-plan p q (r .0) f) in omega (arith, r .1))
-  exactly o (bad q f m) p r = (λ w. absurd (not-both refl (w .1)), λ v. absurd (no-map q m (subst SomeMap (one-plan p q (r .0) (f .0)) v)))
+  exactly o (bad q f m) p r = (λ w. absurd (not-written refl (w .1)), λ v. absurd (no-map q m (subst SomeMap (one-plan p q (r .0) (f .0)) v)))
   exactly o (good q f m) p r =
       (λ w. subst SomeMap (one-plan q p (f .0) (r .0)) (imageOf q, good-valid q m), λ v. (length (imageOf q), refl))
 
@@ -134,15 +131,15 @@ module _ (t before : List ℕ) where
     λ w. ⊎-elim (λ (a : (n ≡ 16) × Sixteen t before). absurd (not-one p r (a .1))) (λ (a : (n ≡ 1) × One t before). ap Refused (sym (a .0))) w,
   )
   refused o (good p r m) n = (
-    λ e. absurd (not-both e refl),
+    λ e. absurd (not-written e refl),
     λ w. ⊎-elim (λ (a : (n ≡ 16) × Sixteen t before). absurd (not-one p r (a .1)))
         (λ (a : (n ≡ 1) × One t before). absurd (a .1 .2 (subst SomeMap (one-plan p (a .1 .0) (r .0) (a .1 .1 .0)) (imageOf p, good-valid p m)))) w,
   )
 
   written : (o : Outcome Answer (List ℕ)) → Way o → (n : ℕ) → o .told ≡ Written n → (p : Plan) × Form t p × Image p before (o .after) n
-  written o (formless none) n e = absurd (not-both refl e)
-  written o (short p f s) n e = absurd (not-both refl e)
-  written o (bad p r m) n e = absurd (not-both refl e)
+  written o (formless none) n e = absurd (not-written refl e)
+  written o (short p f s) n e = absurd (not-written refl e)
+  written o (bad p r m) n e = absurd (not-written refl e)
   written o (good p r m) n e =
       let is : n ≡ length (imageOf p) = cc in
       let front : take n (imageOf p ++ drop (length (imageOf p)) before) ≡ imageOf p = take-at (imageOf p) _ n (sym is) in
@@ -163,7 +160,7 @@ module _ (t before : List ℕ) where
   unchanged o (formless none) n e = refl
   unchanged o (short p f s) n e = refl
   unchanged o (bad p r m) n e = refl
-  unchanged o (good p r m) n e = absurd (not-both e refl)
+  unchanged o (good p r m) n e = absurd (not-written e refl)
 
   pub write-the-map : Claim t before
   write-the-map = record {

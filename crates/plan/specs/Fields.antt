@@ -1,6 +1,6 @@
 -- "reading that image gives the same fields": what the map's own definitions read in the image of a plan, and what breaks a rule of it.
 -- Assumes nothing.
-use Prim.Native.Nat.{ℕ, zero, suc, _+_, _*_, _/_, _%_, _≤_, _<_}
+use Prim.Native.Nat.{ℕ, zero, suc, _+_, _*_, _≤_, _<_}
 use mathlib.Core.Path.{_≡_, refl, sym, ap, subst, _∙_}
 use mathlib.Core.Bool.{false, false≢true}
 use mathlib.Core.List.{List, [], _∷_, _++_, flatMap}
@@ -11,7 +11,7 @@ use lib.Seq.{getD-drop, drop-drop}
 use borrow.Author.Tests.{le-ltb}
 use Rattle.laws.specs.Tests.{not-yes}
 use Rattle.laws.specs.Below.{allBelow, fails-at}
-use Rattle.endian.specs.Endian.{u16At, u16-drop}
+use Rattle.endian.specs.Endian.{u16At, reads-back-2, u16-drop}
 use Rattle.map.specs.Map.{headerOf, entryPlace, entryAt, entryOf, mapGood}
 use Rattle.map.specs.Laws.{map-header, map-entry}
 use Rattle.map.specs.declared.Header.{Header}
@@ -21,14 +21,10 @@ use Rattle.plan.specs.Laws.{flat-length}
 use Rattle.plan.specs.Writing.{entryBytes, imageOf, roomFor}
 use Rattle.plan.specs.Images.{fitsAt}
 
--- a u16 reads back
-u16-back : (v : ℕ) → v % 256 + 256 * (v / 256) ≡ v
-u16-back v = omega arith
-
 -- the entry that starts a list of bytes
 entry-read : (x : Entry) (rest : List ℕ) → entryAt (entryBytes x ++ rest) 0 ≡ x
 unfolding u16At
-entry-read x rest = rw (u16-back (x .first), u16-back (x .n))
+entry-read x rest = rw (reads-back-2 (x .first), reads-back-2 (x .n))
 
 entry-drop : (s : List ℕ) (k : ℕ) → entryAt (drop k s) 0 ≡ entryAt s k
 entry-drop s k =
@@ -53,7 +49,7 @@ module _ (p : Plan) where
   -- P, C and B, with E = 8
   pub image-header : headerOf (imageOf p) ≡ record { partitions = length (p .entries); cells = p .cells; bound = p .bound; offset = 8 }
   unfolding imageOf u16At
-  image-header = rw (u16-back (length (p .entries)), u16-back (p .cells), u16-back (p .bound))
+  image-header = rw (reads-back-2 (length (p .entries)), reads-back-2 (p .cells), reads-back-2 (p .bound))
 
   place-is : (i : ℕ) → entryPlace (imageOf p) i ≡ 8 + 8 * i
   place-is i = ap (λ (h : Header). h .offset + 8 * i) image-header

@@ -14,8 +14,8 @@ use borrow.Author.Tests.{lt-ltb, le-ltb}
 use Rattle.laws.specs.Tests.{lt-or-le}
 use Rattle.laws.specs.Put.{Put, retext}
 use Rattle.laws.specs.Below.{allBelow, all-fails}
-use Rattle.endian.specs.Endian.{bytes4}
-use Rattle.map.specs.Image.{u16, entry}
+use Rattle.endian.specs.Endian.{bytes2, bytes4}
+use Rattle.map.specs.Image.{entry}
 use Rattle.map.specs.declared.Entry.{Entry}
 use Rattle.plan.specs.Form.{Plan, entryIn}
 use Rattle.plan.specs.Reading.{entriesBy, planBy}
@@ -41,7 +41,7 @@ short-is room lines h =
     (lt-or-le ((room - 8) / 8) lines)
 
 -- two u16 are a u32
-pub two-u16 : (low high : ℕ) → low < 65536 → high < 65536 → bytes4 (low + 65536 * high) ≡ u16 low ++ u16 high
+pub two-u16 : (low high : ℕ) → low < 65536 → high < 65536 → bytes4 (low + 65536 * high) ≡ bytes2 low ++ bytes2 high
 two-u16 low high l h =
     let a : (low + 65536 * high) % 256 ≡ low % 256 = omega arith in
     let more : (low + 65536 * high) / 256 ≡ low / 256 + 256 * high = omega arith in
@@ -52,7 +52,7 @@ two-u16 low high l h =
 
 -- kind and flags are a u16, and the two zero bytes another
 pub entry-is : (first n kind flags : ℕ) → kind ≤ 255 → flags ≤ 255
-    → u16 first ++ u16 n ++ (u16 (kind + 256 * flags) ++ u16 0) ≡ entry first n kind flags
+    → bytes2 first ++ bytes2 n ++ (bytes2 (kind + 256 * flags) ++ bytes2 0) ≡ entry first n kind flags
 entry-is first n kind flags k f =
     let a : (kind + 256 * flags) % 256 ≡ kind = omega arith in
     let b : (kind + 256 * flags) / 256 ≡ flags = omega arith in
@@ -74,7 +74,7 @@ module _ (p : Plan) where
 
   -- the header and all of them
   pub image-is : {partitions cells bound : ℕ} → partitions ≡ length (p .entries) → cells ≡ p .cells → bound ≡ p .bound
-      → u16 partitions ++ u16 cells ++ (u16 bound ++ u16 8) ++ entriesBelow partitions ≡ imageOf p
+      → bytes2 partitions ++ bytes2 cells ++ (bytes2 bound ++ bytes2 8) ++ entriesBelow partitions ≡ imageOf p
   unfolding imageOf
   image-is e f g = rw (e, f, g, take-length)
 
@@ -143,7 +143,7 @@ module _ (numbers : List ℕ) (lines : ℕ) (long : length numbers ≡ 66) (most
 
   -- all of them fit, and are written behind the header
   pub imaged : (before after : List ℕ) (next : ℕ) → allBelow (fitsAt kept-plan) lines ≡ true
-      → Put 0 (u16 lines ++ u16 (getD numbers 0 0) ++ (u16 (getD numbers 1 0) ++ u16 8) ++ entriesBelow kept-plan lines) before after next
+      → Put 0 (bytes2 lines ++ bytes2 (getD numbers 0 0) ++ (bytes2 (getD numbers 1 0) ++ bytes2 8) ++ entriesBelow kept-plan lines) before after next
       → next ≡ 8 + 8 * lines → Imaged kept-plan before after true
   imaged before after next e p n =
       (sym (rw lines-are e), λ q. retext (image-is kept-plan (sym lines-are) (sym kept-cells) (sym kept-bound)) (rw (lines-are, ← n) p))

@@ -3,7 +3,7 @@ use Prim.Native.Nat.{ℕ, zero, suc, _+_, _-_, _*_, _/_, _%_, _≤_, _<_}
 use mathlib.Core.Path.{_≡_, refl, ap, _∙_}
 use mathlib.Core.Logic.{⊎-elim}
 use mathlib.Core.Bool.{true, false, _&&_, false≢true}
-use mathlib.Core.List.{List, [], _∷_, _++_, flatMap, append-assoc, append-nil}
+use mathlib.Core.List.{List, [], _∷_, _++_, flatMap, append-assoc, append-nil, foldl, foldl-append}
 use native.Mathlib.Omega.{arith}
 use native.Mathlib.Nat.{zero-add}
 use lib.ListN.{length, length-append}
@@ -15,7 +15,7 @@ use Rattle.text.specs.Text.{digit, decimal}
 use Rattle.text.specs.Laws.{decimal-one, decimal-more}
 use Rattle.map.specs.declared.Entry.{Entry}
 use Rattle.plan.specs.Form.{Plan, partitionLine, textOf, entryNumbers, numbersOf, Small, Form}
-use Rattle.plan.specs.Reading.{isDigit, after, Progress, between, within, broken, digitMore, step, readFrom, readOf}
+use Rattle.plan.specs.Reading.{isDigit, after, Progress, between, within, broken, digitMore, step, readOf}
 use Rattle.plan.specs.Reading.{numbersIn, whole, entriesBy, planBy, hasForm, planOf}
 
 -- ---- the text of numbers, the byte behind each by its place
@@ -51,15 +51,11 @@ text-is p = rw (lines-are 2 (p .entries) refl, append-assoc, append-assoc, appen
 
 -- ---- what has the form is read to its end
 
-pub read-append : (s : Progress) (t u : List ℕ) → readFrom s (t ++ u) ≡ readFrom (readFrom s t) u
-read-append s [] u = refl
-read-append s (c ∷ t) u = read-append (step s c) t u
-
 -- a number's last digit is one, and has its value
 digit-is : (v : ℕ) → (isDigit (digit v) ≡ true) × (digit v - 48 ≡ v % 10)
 digit-is v = (rw (le-leb 48 (digit v) (omega arith), le-leb (digit v) 57 (omega arith)), omega arith)
 
-read-decimal : (numbers : List ℕ) (most v : ℕ) → v ≤ most → v ≤ 65535 → readFrom (between numbers) (decimal v) ≡ within numbers v
+read-decimal : (numbers : List ℕ) (most v : ℕ) → v ≤ most → v ≤ 65535 → foldl step (between numbers) (decimal v) ≡ within numbers v
 read-decimal numbers zero v h l =
     let d = digit-is v in
     let e : v % 10 ≡ v = omega arith in
@@ -72,7 +68,7 @@ read-decimal numbers (suc most) v h l =
     let e : v / 10 * 10 + v % 10 ≡ v = omega arith in
     rw (
       decimal-more v a,
-      read-append (between numbers) (decimal (v / 10)) (digit v ∷ []),
+      foldl-append step (between numbers) (decimal (v / 10)) (digit v ∷ []),
       read-decimal numbers most (v / 10) (omega arith) (omega arith),
       d .0,
       d .1,
@@ -88,14 +84,14 @@ number-ended numbers v =
     let k = length numbers in
     ⊎-elim (λ (e : eqb (k % 4) 1 ≡ true). rw e) (λ (e : eqb (k % 4) 1 ≡ false). rw e) (decided (eqb (k % 4) 1))
 
-read-flat : (numbers vs : List ℕ) → Small vs → readFrom (between numbers) (flat (length numbers) vs) ≡ between (numbers ++ vs)
+read-flat : (numbers vs : List ℕ) → Small vs → foldl step (between numbers) (flat (length numbers) vs) ≡ between (numbers ++ vs)
 read-flat numbers [] h = rw append-nil
 read-flat numbers (v ∷ vs) h =
     let next : suc (length numbers) ≡ length (numbers ++ (v ∷ [])) = simp length-append (omega arith) in
     let rest = flat (suc (length numbers)) vs in
-    read-append (between numbers) (decimal v) (after (length numbers) ∷ rest)
-    ∙ ap (λ (s : Progress). readFrom s (after (length numbers) ∷ rest)) (read-decimal numbers v v (omega arith) (h .0))
-    ∙ ap (λ (s : Progress). readFrom s rest) (number-ended numbers v)
+    foldl-append step (between numbers) (decimal v) (after (length numbers) ∷ rest)
+    ∙ ap (λ (s : Progress). foldl step s (after (length numbers) ∷ rest)) (read-decimal numbers v v (omega arith) (h .0))
+    ∙ ap (λ (s : Progress). foldl step s rest) (number-ended numbers v)
     ∙ rw next (read-flat (numbers ++ (v ∷ [])) vs (h .1) ∙ ap between (append-assoc numbers (v ∷ []) vs))
 
 -- ---- what is read has the form
@@ -148,7 +144,7 @@ step-shown t (within numbers value) c h =
     (λ y. rw (eqb-true c (after (length numbers)) y) (ended-shown t numbers value h)) (λ m. tt))
 step-shown t broken c h = tt
 
-read-shown : (t : List ℕ) (s : Progress) (u : List ℕ) → Shown t s → Shown (t ++ u) (readFrom s u)
+read-shown : (t : List ℕ) (s : Progress) (u : List ℕ) → Shown t s → Shown (t ++ u) (foldl step s u)
 read-shown t s [] h = rw append-nil h
 read-shown t s (c ∷ u) h = rw (← append-snoc t c u) (read-shown (t ++ (c ∷ [])) (step s c) u (step-shown t s c h))
 
@@ -201,7 +197,7 @@ plan-is p =
 
 pub formed : (t : List ℕ) → hasForm t ≡ true → Form t (planOf t)
 unfolding hasForm planOf readOf
-formed t e = from (readFrom (between []) t) (read-shown [] (between []) t (refl, tt)) e
+formed t e = from (foldl step (between []) t) (read-shown [] (between []) t (refl, tt)) e
   where
     from : (s : Progress) → Shown t s → whole s ≡ true → Form t (planBy (numbersIn s))
     from (between numbers) h e =

@@ -2,7 +2,7 @@
 -- that form is proved in `Laws`. Assumes nothing.
 use Prim.Native.Nat.{ℕ, zero, suc, _+_, _-_, _*_, _/_, _%_}
 use mathlib.Core.Bool.{Bool, false, cond, _&&_}
-use mathlib.Core.List.{List, [], _∷_, _++_}
+use mathlib.Core.List.{List, [], _∷_, _++_, foldl}
 use lib.ListN.{length, getD, drop}
 use lib.Dec.{eqb, leb, ltb}
 use Rattle.map.specs.declared.Entry.{Entry}
@@ -36,12 +36,8 @@ step (between numbers) c = cond (isDigit c) (within numbers (c - 48)) broken
 step (within numbers value) c = cond (isDigit c) (digitMore numbers value c) (numberEnds numbers value c)
 step broken c = broken
 
-abbrev pub readFrom : Progress → (t : List ℕ) → Progress
-readFrom s [] = s
-readFrom s (c ∷ t) = readFrom (step s c) t
-
 unfoldable pub readOf : (t : List ℕ) → Progress
-readOf t = readFrom (between []) t
+readOf t = foldl step (between []) t
 
 -- the numbers that have ended
 abbrev pub numbersIn : Progress → List ℕ

@@ -4,7 +4,7 @@ use Prim.Native.Nat.{ℕ, _+_, _-_, _*_, _%_, _≤_, _<_}
 use mathlib.Core.Path.{_≡_, refl, sym, ap, _∙_}
 use mathlib.Core.Logic.{⊎-elim}
 use mathlib.Core.Bool.{true, false, cond, _&&_, _||_, not, and-false}
-use mathlib.Core.List.{List, [], _∷_, _++_}
+use mathlib.Core.List.{List, [], _∷_, _++_, foldl, foldl-append}
 use native.Mathlib.Omega.{arith}
 use native.Mathlib.Numerals.{add-one}
 use lib.ListN.{length, getD, take, drop, set, length-append, length-set, take-append-drop}
@@ -14,8 +14,8 @@ use borrow.Author.Tests.{ltb-false, eqb-true, lt-ltb, le-ltb, le-leb, lt-leb, eq
 use Rattle.laws.specs.Tests.{lt-or-le, neither, cond-keeps}
 use Rattle.plan.specs.declared.Reading.{Reading}
 use Rattle.plan.specs.declared.Reading.the-variants.{Whole, Formless}
-use Rattle.plan.specs.Reading.{isDigit, after, Progress, between, within, broken, step, readFrom, readOf, numbersIn, whole}
-use Rattle.plan.specs.Laws.{digit-range, read-append}
+use Rattle.plan.specs.Reading.{isDigit, after, Progress, between, within, broken, step, readOf, numbersIn, whole}
+use Rattle.plan.specs.Laws.{digit-range}
 
 -- a value with one digit more
 abbrev pub longer : (value c : ℕ) → ℕ
@@ -131,18 +131,18 @@ ended value c count e =
 module _ (t : List ℕ) (k : ℕ) where
   pub read-more : k < length t → readOf (take (k + 1) t) ≡ step (readOf (take k t)) (getD t k 0)
   unfolding readOf
-  read-more l = rw (add-one, take-suc t k 0 l) (read-append (between []) (take k t) (getD t k 0 ∷ []))
+  read-more l = rw (add-one, take-suc t k 0 l) (foldl-append step (between []) (take k t) (getD t k 0 ∷ []))
 
   -- what is broken stays so
-  broken-stays : (u : List ℕ) → readFrom broken u ≡ broken
+  broken-stays : (u : List ℕ) → foldl step broken u ≡ broken
   broken-stays [] = refl
   broken-stays (c ∷ u) = broken-stays u
 
   pub read-breaks : k < length t → step (readOf (take k t)) (getD t k 0) ≡ broken → readOf t ≡ broken
   unfolding readOf
   read-breaks l e =
-      ap (readFrom (between [])) (sym (take-append-drop (k + 1) t)) ∙ read-append (between []) (take (k + 1) t) (drop (k + 1) t)
-      ∙ ap (λ (s : Progress). readFrom s (drop (k + 1) t)) (read-more l ∙ e) ∙ broken-stays (drop (k + 1) t)
+      ap (λ (u : List ℕ). foldl step (between []) u) (sym (take-append-drop (k + 1) t)) ∙ foldl-append step (between []) (take (k + 1) t) (drop (k + 1) t)
+      ∙ ap (λ (s : Progress). foldl step s (drop (k + 1) t)) (read-more l ∙ e) ∙ broken-stays (drop (k + 1) t)
 
 -- at the text's end
 module _ (t : List ℕ) where

@@ -56,15 +56,17 @@ rooms :
 unfolding writingOf hasForm planOf readOf imageOf flatMap mapGood every headerGood fillerGood entryGood placeGood allBelow u16At
 rooms = refl
 
--- sixteen lines and one more: four cells each; the longest text of sixteen is 396 bytes long
-abbrev lines : (count : ℕ) (line : List ℕ) → List ℕ
+-- so many equal lines
+abbrev pub lines : (count : ℕ) (line : List ℕ) → List ℕ
 lines count line = flatMap (λ (x : List ℕ). x) (replicate count line)
 
+-- seventeen lines, with the room and one byte short of it
 counts : map (told 144) ((text "12 60\n" ++ lines 17 (text "0 4 0 0\n")) ∷ []) ++ map (told 143) ((text "12 60\n" ++ lines 17 (text "0 4 0 0\n")) ∷ [])
     ≡ Refused 1 ∷ Refused 16 ∷ []
 unfolding writingOf hasForm planOf readOf imageOf flatMap mapGood every headerGood fillerGood entryGood placeGood allBelow u16At
 counts = refl
 
+-- the longest text of sixteen
 longest : length (text "65535 65535\n" ++ lines 16 (text "65535 65535 65535 65535\n")) ≡ 396
 unfolding flatMap
 longest = refl

@@ -17,7 +17,7 @@ use Rattle.plan.specs.Reading.{hasForm, planOf}
 abbrev pub entryBytes : Entry → List ℕ
 entryBytes x = entry (x .first) (x .n) (x .kind) (x .flags)
 
--- "an image with E = 8"
+-- "an image with E = 8". A number stands in its place whole, a kind of 300 too: no byte holds it, and the map's rules find it
 unfoldable pub imageOf : Plan → List ℕ
 imageOf p = image (length (p .entries)) (p .cells) (p .bound) 8 [] (flatMap entryBytes (p .entries))
 

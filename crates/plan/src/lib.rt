@@ -2,7 +2,8 @@
 // once, byte after byte: its numbers are kept as far as a map can have them, and counted past that.
 // The text's form is in `specs/Form`, the reading in `specs/Reading`, the image and the refusals in
 // `specs/Writing`; that an image is written exactly when some good map has the text's fields is in
-// `specs/Exactly`. It rests on `map`, `endian`, `text` and `laws`, and on the outcome of `context`.
+// `specs/Exactly`. It rests on `map`, `endian` and `laws`, and for its definitions on `text` and on the
+// outcome of `context`.
 ghost use Prim.Native.Nat.{_+_, _*_, _≤_};
 ghost use mathlib.Core.Path.{_≡_};
 ghost use mathlib.Core.Bool.{true};
@@ -11,7 +12,8 @@ ghost use lib.Dec.{ltb};
 ghost use lib.ListN.{length, take};
 ghost use Rattle.laws.specs.Put.{Put};
 ghost use Rattle.context.specs.State.{outcome};
-ghost use Rattle.map.specs.Image.{u16, entry};
+ghost use Rattle.endian.specs.Endian.{bytes2};
+ghost use Rattle.map.specs.Image.{entry};
 ghost use Rattle.plan.specs.Reading.{isDigit, after, planBy, readOf};
 ghost use Rattle.plan.specs.Steps.{longer, kept, Keeps, readingOf};
 ghost use Rattle.plan.specs.Images.{Imaged};
@@ -119,7 +121,7 @@ fn is_short(room: usize, lines: usize) -> bool
 // Writes two u16, and answers the place past them.
 fn put_two(image: &mut [u8], at: usize, low: u16, high: u16) -> usize
     requires { ⌜ at + 4 ≤ length (now image) ⌝ }
-    ensures { λ r. ⌜ Put at (u16 low ++ u16 high) (now (image .entry)) (now (image .exit)) r ⌝ }
+    ensures { λ r. ⌜ Put at (bytes2 low ++ bytes2 high) (now (image .entry)) (now (image .exit)) r ⌝ }
 {
     endian::put_u32(image, at, (low as u32) + 65536 * (high as u32))
 }
@@ -127,7 +129,7 @@ fn put_two(image: &mut [u8], at: usize, low: u16, high: u16) -> usize
 // Writes the header of an image with so many partitions, with E = 8, and answers the place past it.
 fn put_header(image: &mut [u8], partitions: u16, cells: u16, bound: u16) -> usize
     requires { ⌜ 8 ≤ length (now image) ⌝ }
-    ensures { λ r. ⌜ Put 0 (u16 partitions ++ u16 cells ++ (u16 bound ++ u16 8)) (now (image .entry)) (now (image .exit)) r ⌝ }
+    ensures { λ r. ⌜ Put 0 (bytes2 partitions ++ bytes2 cells ++ (bytes2 bound ++ bytes2 8)) (now (image .entry)) (now (image .exit)) r ⌝ }
 {
     let at = put_two(image, 0, partitions, cells);
     put_two(image, at, bound, 8)

@@ -1,6 +1,5 @@
--- A longer input: once there are more than 16,642 bytes (2 + 256 + 8 · 2,048, the longest drive), what follows changes nothing. So a
--- program that reads at least one byte more than that may stop reading.
--- Assumes nothing.
+-- A longer input: once there are more than 16,642 bytes (2 + 256 + 8 · 2,048, the longest drive; no map's text that fits is longer than
+-- 396), what follows changes nothing. So a program that reads at least one byte more than that may stop reading. Assumes nothing.
 use Prim.Native.Nat.{ℕ, suc, _+_, _-_, _*_, _≤_, _<_}
 use mathlib.Core.Path.{_≡_, refl, sym, ap, _∙_}
 use mathlib.Core.Logic.{⊎-elim}
@@ -80,13 +79,14 @@ module _ (view : View) (input : List ℕ) (k : ℕ) (l : 16642 < k) (h : k ≤ l
       too-much view (take k input) (omega arith) ∙ ap refusedLine same-late ∙ sym (too-much view input (omega arith))
 
 -- a map's text that is longer than any drive is refused with 16, whatever it holds
-map-cut : (input : List ℕ) → 16642 < length input → mapReport input ≡ onErrors (refusedLine 16)
+long-text : (input : List ℕ) → 16642 < length input → mapReport input ≡ onErrors (refusedLine 16)
 unfolding mapReport
-map-cut input l = too-long input 136 (omega arith) (omega arith) (λ number. onErrors (refusedLine number)) (onOutput (planImage (planOf input)))
+long-text input l = too-long input 136 (omega arith) (omega arith) (λ number. onErrors (refusedLine number)) (onOutput (planImage (planOf input)))
 
-pub past-any-drive : (program : Program) (input : List ℕ) (k : ℕ) → 16642 < k → k ≤ length input → reportOf program (take k input) ≡ reportOf program input
-past-any-drive Status input k l h = ap onOutput (drive-cut Table input k l h)
-past-any-drive Why input k l h = ap onOutput (drive-cut Line input k l h)
-past-any-drive MakeMap input k l h =
+pub past-any-input : (program : Program) (input : List ℕ) (k : ℕ) → 16642 < k → k ≤ length input
+    → reportOf program (take k input) ≡ reportOf program input
+past-any-input Status input k l h = ap onOutput (drive-cut Table input k l h)
+past-any-input Why input k l h = ap onOutput (drive-cut Line input k l h)
+past-any-input MakeMap input k l h =
     let long : length (take k input) ≡ k = length-take-le k input h in
-    map-cut (take k input) (omega arith) ∙ sym (map-cut input (omega arith))
+    long-text (take k input) (omega arith) ∙ sym (long-text input (omega arith))

@@ -1,6 +1,6 @@
 -- What `make_map` prints, by what `plan::write_map` answers and leaves in its part of the buffer. Assumes nothing.
 use Prim.Native.Nat.{ℕ, _≤_}
-use mathlib.Core.Path.{_≡_, refl, ap}
+use mathlib.Core.Path.{_≡_, refl, sym, ap}
 use mathlib.Core.Logic.{⊎-elim}
 use mathlib.Core.List.{List, _++_, append-assoc}
 use native.Mathlib.Omega.{arith}
@@ -15,13 +15,14 @@ use Rattle.plan.specs.declared.Answer.the-variants.{Written, Refused}
 use Rattle.plan.specs.Reading.{planOf}
 use Rattle.plan.specs.Writing.{imageOf, roomFor, writingTests, inFront, writingOf}
 use Rattle.plan.specs.Fields.{image-length}
+use Rattle.plan.specs.Answers.{not-written}
 use Rattle.report.specs.declared.Stream.the-variants.{Output, Errors}
 use Rattle.report.specs.Status.{refusedLine}
 use Rattle.report.specs.Report.{Saying, onOutput, onErrors, mapReport, Told}
 use Rattle.report.specs.Laws.{in-front}
 
 -- an outcome of `write_map`, and what is printed for it
-data Says (before : List ℕ) : Outcome Answer (List ℕ) → Saying → Type 0 where
+pub data Says (before : List ℕ) : Outcome Answer (List ℕ) → Saying → Type 0 where
   refused : (number : ℕ) → number ≤ 16 → Says before (refusing Refused before number) (onErrors (refusedLine number))
   written : (image : List ℕ) → length image ≤ length before → Says before (inFront image before) (onOutput image)
 
@@ -31,7 +32,7 @@ module _ (input before : List ℕ) (room : length before ≡ 136) where
       ⊎-elim (λ (e : _ × (n ≡ 16)). omega (arith, e .1))
       (λ b. ⊎-elim (λ (e : _ × (n ≡ 16)). omega (arith, e .1)) (λ c. ⊎-elim (λ (e : _ × (n ≡ 1)). omega (arith, e .1)) (λ d. absurd d) c) b) a
 
-  says : Says before (writingOf input before) (mapReport input)
+  pub says : Says before (writingOf input before) (mapReport input)
   unfolding writingOf mapReport
   says =
       rw room (first-both (Says before) (refusing Refused before) (λ number. onErrors (refusedLine number)) (writingTests input 136)
@@ -56,7 +57,7 @@ module _ (input out : List ℕ) (room : 448 ≤ length out) where
   module _ (n : ℕ) (after : List ℕ) where
     image-from : (o : Outcome Answer (List ℕ)) (s : Saying) → Says (part out) o s → outcome (Written n) after ≡ o
         → Told s out (after ++ drop 136 out) (record { stream = Output; count = n })
-    image-from o s (refused m l) e = absurd (let q = ap (λ (x : Outcome Answer (List ℕ)). x .told) e in let z : _≡_ {A = ℕ} 0 1 = cc in omega arith)
+    image-from o s (refused m l) e = absurd (not-written refl (sym (ap (λ (x : Outcome Answer (List ℕ)). x .told) e)))
     image-from o s (written image l) e =
         let told = ap (λ (x : Outcome Answer (List ℕ)). x .told) e in
         let count : n ≡ length image = cc in
@@ -78,7 +79,7 @@ module _ (input out : List ℕ) (room : 448 ≤ length out) where
         let number : n ≡ m = cc in
         let left : after ≡ part out = ap (λ (x : Outcome Answer (List ℕ)). x .after) e in
         (omega arith, rw left (take-append-drop 136 out), rw number)
-    refused-from o s (written image l) e = absurd (let q = ap (λ (x : Outcome Answer (List ℕ)). x .told) e in let z : _≡_ {A = ℕ} 0 1 = cc in omega arith)
+    refused-from o s (written image l) e = absurd (not-written refl (ap (λ (x : Outcome Answer (List ℕ)). x .told) e))
 
     pub image-told : outcome (Written n) after ≡ writingOf input (part out)
         → Told (mapReport input) out (after ++ drop 136 out) (record { stream = Output; count = n })

@@ -10,6 +10,7 @@ use Rattle.endian.specs.Endian.{u16At, u32At}
 use Rattle.map.specs.Map.{headerGood, fillerGood, entryGood, placeGood, mapGood}
 use Rattle.map.specs.Image.{image}
 use Rattle.map.specs.Vectors.{two}
+use Rattle.plan.specs.Vectors.{lines}
 use Rattle.plan.specs.Reading.{readOf, hasForm, planOf}
 use Rattle.plan.specs.Writing.{imageOf as planImage}
 use Rattle.partition.specs.Partition.{shortAt, counted, zeroCell, stateOf}
@@ -17,7 +18,7 @@ use Rattle.drive.specs.Drive.{surveyAt, slotAt, openSlot, activeSlot}
 use Rattle.reason.specs.Reason.{notSlot, reasonIn}
 use Rattle.text.specs.Text.{text, decimal}
 use Rattle.wording.specs.Wording.{pairWords, whyLine}
-use Rattle.report.specs.Status.{numberAt, readingOf, lineOf, hekLine, lineAt, tableOf, refusedLine}
+use Rattle.report.specs.Status.{numberAt, readingOf, lineOf, hekLine, lineAt, tableOf}
 use Rattle.report.specs.Report.{onOutput, onErrors, mapReport, reportOf}
 use Rattle.report.specs.declared.Program.the-variants.{Status, Why, MakeMap}
 
@@ -50,16 +51,15 @@ reasons = refl
 -- short; something behind the marks
 refusals :
     map (reportOf Status) ((24 ∷ []) ∷ (1 ∷ 1 ∷ []) ∷ take 25 small ∷ (8 ∷ 0 ∷ replicate 8 0) ∷ take 121 small ∷ (small ++ (0 ∷ [])) ∷ [])
-    ≡ map (λ (number : ℕ). onOutput (refusedLine number)) (2 ∷ 1 ∷ 2 ∷ 1 ∷ 2 ∷ 2 ∷ [])
+    ≡ map onOutput
+    (text "refused 2\n" ∷ text "refused 1\n" ∷ text "refused 2\n" ∷ text "refused 1\n" ∷ text "refused 2\n" ∷ text "refused 2\n" ∷ [])
 unfolding readingOf decimal mapGood every headerGood fillerGood entryGood placeGood allBelow u16At
 refusals = refl
 
 -- request P2: the small drive's map from its text; a line feed that is missing, a seventeenth line, and a rule that is broken
-lines : (count : ℕ) → List ℕ
-lines count = flatMap (λ (line : List ℕ). line) (replicate count (text "0 4 0 0\n"))
-
 maps :
-    map (reportOf MakeMap) (text "12 60\n0 6 0 7\n6 6 1 0\n" ∷ text "12 60\n0 6 0 7" ∷ (text "12 60\n" ++ lines 17) ∷ text "12 60\n0 6 0 5\n" ∷ [])
+    map (reportOf MakeMap) (text "12 60\n0 6 0 7\n6 6 1 0\n" ∷ text "12 60\n0 6 0 7" ∷ (text "12 60\n" ++ lines 17 (text "0 4 0 0\n"))
+    ∷ text "12 60\n0 6 0 5\n" ∷ [])
     ≡ onOutput (image 2 12 60 8 [] two) ∷ onErrors (text "refused 16\n") ∷ onErrors (text "refused 16\n") ∷ onErrors (text "refused 1\n") ∷ []
-unfolding mapReport lines hasForm planOf readOf planImage flatMap decimal mapGood every headerGood fillerGood entryGood placeGood allBelow u16At
+unfolding mapReport hasForm planOf readOf planImage flatMap decimal mapGood every headerGood fillerGood entryGood placeGood allBelow u16At
 maps = refl

@@ -1,4 +1,5 @@
--- The answers as numbers, for C: each case of a partition's fields, a map's text, a listing, a reason, a place, an answer, a reply and an engine order. Assumes nothing.
+-- The answers as numbers, for C: each case of a partition's fields, a map's text, a listing, a reason, a place, an answer, a reply and
+-- an engine order. Assumes nothing.
 use Prim.Native.Nat.{ℕ}
 use Rattle.cache.specs.declared.Place.{Place}
 use Rattle.cache.specs.declared.Place.the-variants.{Empty, Held}

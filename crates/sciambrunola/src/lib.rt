@@ -27,7 +27,8 @@ ghost use Rattle.reason.specs.Reason.{reasonOf};
 ghost use Rattle.erasure.specs.Erasure.{erasureOf, cutErasureOf};
 ghost use Rattle.direct.specs.Direct.{directOf};
 ghost use Rattle.mailbox.specs.Mailbox.{lent, mailboxOf};
-ghost use Rattle.sciambrunola.specs.Numbers.{fieldsNumbers, writtenNumbers, listingNumbers, reasonNumbers, placeNumbers, answerNumbers, erasureNumbers, replyNumbers};
+ghost use Rattle.sciambrunola.specs.Numbers.{fieldsNumbers, writtenNumbers, listingNumbers, reasonNumbers};
+ghost use Rattle.sciambrunola.specs.Numbers.{placeNumbers, answerNumbers, erasureNumbers, replyNumbers};
 
 // The fields of a partition.
 #[no_mangle]

@@ -11,7 +11,8 @@ use plan::Answer as Writing;
 use reader::Reading;
 use states::Listing;
 ghost use mathlib.Core.Path.{_≡_};
-ghost use Rattle.sciambrunola.specs.Numbers.{fieldsNumbers, writtenNumbers, listingNumbers, placeNumbers, answerNumbers, erasureNumbers, orderNumbers, replyNumbers};
+ghost use Rattle.sciambrunola.specs.Numbers.{fieldsNumbers, writtenNumbers, listingNumbers, placeNumbers};
+ghost use Rattle.sciambrunola.specs.Numbers.{answerNumbers, erasureNumbers, orderNumbers, replyNumbers};
 
 // What a map says of a partition, with its header. refusal: 0 where it is told.
 #[repr(C)]

@@ -13,6 +13,13 @@ pub const SLOT: u32 = 0;
 /// Its map as the text of document 02, P2.
 pub const MAP_TEXT: &str = "12 60\n0 6 0 7\n6 6 1 0\n";
 
+/// The image of its map.
+pub const MAP: &[u8; 24] = &[
+    0x02, 0x00, 0x0C, 0x00, 0x3C, 0x00, 0x08, 0x00, // P, C, B, E
+    0x00, 0x00, 0x06, 0x00, 0x00, 0x07, 0x00, 0x00, // first, n, kind, flags, two zero bytes
+    0x06, 0x00, 0x06, 0x00, 0x01, 0x00, 0x00, 0x00,
+];
+
 /// The drive with no key held and this mark on a cell. Block and response buffer
 /// hold bytes that no answer has.
 pub fn marked(cell: usize, mark: u32) -> Lent {

@@ -9,7 +9,7 @@ use checks::faults::{Faulty, OF_MAPS};
 use checks::proved::Proved;
 use checks::random::Random;
 use checks::runner::{in_repository, program, streams};
-use checks::small::MAP_TEXT;
+use checks::small::{MAP, MAP_TEXT};
 use checks::tally::Tally;
 use checks::texts::{self, Form, Text};
 use model::text::Fields;
@@ -22,13 +22,6 @@ const TEXTS: usize = 400_000;
 const FEW: usize = 20_000;
 /// Each kind of damage and each outcome has to be met so often.
 const LEAST: usize = 100;
-
-/// The image of document 01's small drive.
-const SMALL: [u8; 24] = [
-    0x02, 0x00, 0x0C, 0x00, 0x3C, 0x00, 0x08, 0x00, // P, C, B, E
-    0x00, 0x00, 0x06, 0x00, 0x00, 0x07, 0x00, 0x00, // first, n, kind, flags, two zero bytes
-    0x06, 0x00, 0x06, 0x00, 0x01, 0x00, 0x00, 0x00,
-];
 
 /// A buffer that holds anything, with this room.
 fn lent(seed: usize, room: usize) -> Lent {
@@ -121,18 +114,18 @@ fn check_refused(text: &[u8], room: usize, number: u32) {
 fn the_small_drives_text_is_its_map_byte_for_byte_and_makes_the_status_programs_input() {
     for room in [24, 25, LONGEST_IMAGE] {
         let (written, output) = asked(MAP_TEXT.as_bytes(), room);
-        assert_eq!((written, &output[..24]), ([0, 24], &SMALL[..]));
+        assert_eq!((written, &output[..24]), ([0, 24], &MAP[..]));
         assert_eq!(output[24..], lent(0, room).output[24..], "room {room}");
     }
     for room in [0, 7, 8, 16, 23] {
         check_refused(MAP_TEXT.as_bytes(), room, 16);
     }
-    assert_eq!(streams(&program("make_map"), &[MAP_TEXT.as_bytes()]), [SMALL.to_vec(), vec![]]);
+    assert_eq!(streams(&program("make_map"), &[MAP_TEXT.as_bytes()]), [MAP.to_vec(), vec![]]);
     let read =
         |path| fs::read(in_repository(path)).unwrap_or_else(|error| panic!("{path}: {error}"));
     let text = String::from_utf8(read("drives/programmed.txt")).expect("the sample is a text");
     let drive = drives::Drive::read(&text).expect("the sample is a drive");
-    assert_eq!((drive.image(), drive.bytes()), (&SMALL[..], read("crates/status/stdin")));
+    assert_eq!((drive.image(), drive.bytes()), (&MAP[..], read("crates/status/stdin")));
 }
 
 /// 17 partitions are 1 with room for them, and so are as many as 16 bits cannot count; a count in

@@ -4,11 +4,15 @@
 //! The inputs are pieces laid end to end; each piece is named after what is wrong with it.
 
 use checks::programs::both;
+use checks::small::MAP;
 
-/// The small drive's map, its twelve cells or marks being zeros here.
-const MAP: &[u8] = &[2, 0, 12, 0, 60, 0, 8, 0, 0, 0, 6, 0, 0, 7, 0, 0, 6, 0, 6, 0, 1, 0, 0, 0];
-/// The same with P 0: it breaks the rules, whole or cut.
-const BAD_MAP: &[u8] = &[0, 0, 12, 0, 60, 0, 8, 0, 0, 0, 6, 0, 0, 7, 0, 0, 6, 0, 6, 0, 1, 0, 0, 0];
+/// The small drive's map with P 0: it breaks the rules, whole or cut.
+const BAD_MAP: &[u8] = &{
+    let mut map = *MAP;
+    map[0] = 0;
+    map
+};
+/// The small drive's twelve cells or marks are zeros here.
 const ZEROS: &[u8] = &[0; 1024];
 /// The length of MAP and of BAD_MAP.
 const LENGTH: &[u8] = &[24, 0];

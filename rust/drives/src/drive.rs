@@ -22,11 +22,14 @@ impl Drive {
     /// What is wrong with the text, and in which line.
     pub fn read(text: &str) -> Result<Drive, Mistake> {
         let lines = spoken(text)?;
-        let after_first = lines.get(1..).ok_or_else(|| past_end(text, map::FIRST_LINE))?;
-        // Those of the fuses begin with a name.
+        if lines.is_empty() {
+            return Err(past_end(text, map::FIRST_LINE));
+        }
+        // The first line and the next, a partition, are the map's whatever they say. Behind them
+        // the lines of the map begin with a digit, those of the fuses with a name.
         let of_map = |line: &&Line| line.text.starts_with(|first: char| first.is_ascii_digit());
-        let partitions = after_first.iter().take_while(of_map).count();
-        let (of_map, of_fuses) = lines.split_at(1 + partitions);
+        let more = lines.iter().skip(2).take_while(of_map).count();
+        let (of_map, of_fuses) = lines.split_at(lines.len().min(2 + more));
         let image = map::image(of_map)?;
         let count = map::cells(&image);
         // A value for each cell and each mark, none where no line has given one.

@@ -23,8 +23,8 @@ impl Error for Mistake {}
 const BYTE_ORDER_MARK: &str = "\
     the text begins with a byte order mark, the bytes EF BB BF: save it as UTF-8 without one";
 const WINDOWS: &str = "\
-    the line ends with a carriage return before its line feed, as Windows ends lines: save the \
-    text with line feeds alone";
+    the line ends with a carriage return, as lines do on Windows: save the text with line feeds \
+    alone";
 
 /// The mistake of a text that ends where this is wanted.
 pub(crate) fn past_end(text: &str, wanted: &str) -> Mistake {

@@ -7,6 +7,10 @@ const FIRST: &str = "wanted the map's first line, `C B`";
 const PARTITION: &str = "wanted a partition, `first cells kind flags`";
 const NUMBERS: &str = "decimal numbers up to 65535, without leading zeros and with single spaces";
 
+/// The rules of the first.
+const FIRST_RULES: &str =
+    "the map breaks a rule: C, the cells, is 4 to 2048, and B, the bound, is 33 to 64";
+
 /// Each of the texts has the mistake, told in these words.
 fn check(expected: &str, texts: &[&str]) {
     for text in texts {
@@ -65,22 +69,23 @@ fn a_byte_order_mark_and_the_line_ends_of_windows_are_named() {
     let mark = "line 1: the text begins with a byte order mark, the bytes EF BB BF: save it as \
                 UTF-8 without one";
     check(mark, &["\u{FEFF}12 60\n0 6 0 7\n", "\u{FEFF}# a drive\r\n12 60\r\n", "\u{FEFF}"]);
-    let ends = "the line ends with a carriage return before its line feed, as Windows ends lines: \
-                save the text with line feeds alone";
+    let ends = "the line ends with a carriage return, as lines do on Windows: save the text with \
+                line feeds alone";
     check(&format!("line 1: {ends}"), &["12 60\r\n0 6 0 7\r\n", "# a drive\r\n12 60\r\n", "\r\n"]);
     check(&format!("line 2: {ends}"), &["12 60\n0 6 0 7\r\ncell 0 1\n", "12 60\n0 6 0 7\r\n6 6"]);
     check(&format!("line 3: {ends}"), &["12 60\n0 6 0 7\ncell 0 1\r\n"]);
+    // Also of a last line without its line feed.
+    check(&format!("line 2: {ends}"), &["12 60\n0 6 0 7\r", "12 60\n\r"]);
 }
 
 /// The rules are document 01's, "The map of the fuses". The library judges; that each rule is
 /// judged is tested with it.
 #[test]
 fn a_map_that_breaks_a_rule_is_told_with_its_line_and_the_rules() {
-    let first = "the map breaks a rule: C, the cells, is 4 to 2048, and B, the bound, is 33 to 64";
     let texts = ["3 60\n", "2049 60\n", "12 32\n", "12 65\n", "0 0\n", "65535 65535\n"];
     for text in texts {
         let more = format!("# a drive\n{text}0 6 0 7\n");
-        check(&format!("line 2: {first}"), &[&more, &format!("# a drive\n{text}")]);
+        check(&format!("line 2: {FIRST_RULES}"), &[&more, &format!("# a drive\n{text}")]);
     }
     let rules = "the map breaks a rule with this partition: first and cells are even; cells is \
                  at least 4, with flag 1 at least 6; it begins where the one before ends or \
@@ -99,9 +104,24 @@ fn a_map_that_breaks_a_rule_is_told_with_its_line_and_the_rules() {
     // Of several lines at fault the first is told.
     check(&format!("line 2: {rules}"), &["12 60\n0 6 0 5\n6 6 1\n"]);
     check(&format!("line 2: {PARTITION}, {NUMBERS}, not \"0 6\""), &["12 60\n0 6\n6 6 1 2\n"]);
+}
+
+/// Whatever follows the map's first line has to be a partition.
+#[test]
+fn a_line_in_place_of_the_first_partition_is_told_and_no_line_at_all() {
+    let slips = [" 0 6 0 7", "\t0 6 0 7", "+0 6 0 7", "-0 6 0 7", "partition 0 6 0 7", " "];
+    let fuses = ["cell 0 1", "mark 0 1", "cells 0-5 FFFFFFFF", "Mark 0 1", " cell 0 1"];
+    for line in slips.into_iter().chain(fuses) {
+        let told = format!("{PARTITION}, {NUMBERS}, not {line:?}");
+        check(&format!("line 2: {told}"), &[&format!("12 60\n{line}\n")]);
+        let more = format!("12 60\n\n# the slot\n{line}\n6 6 1 0\ncell 0 1\n");
+        check(&format!("line 4: {told}"), &[&more]);
+        // A mistake in the first line is told before.
+        check(&format!("line 1: {FIRST_RULES}"), &[&format!("12 65\n{line}\n")]);
+    }
     let none = "the map has no partition: wanted `first cells kind flags` below this line";
-    check(&format!("line 1: {none}"), &["12 60\n", "12 60\ncell 0 1\n"]);
-    check(&format!("line 2: {none}"), &["# a drive\n4 33\n\nmark 0 1\n"]);
+    check(&format!("line 1: {none}"), &["12 60\n", "12 60\n\n# no more\n"]);
+    check(&format!("line 2: {none}"), &["# a drive\n4 33\n"]);
 }
 
 /// "partition count P (1..16)"; and far more lines than any map has are told at once.

@@ -38,6 +38,15 @@ fn text_is_read_from_standard_input_or_from_the_file_that_is_named() {
 }
 
 #[test]
+fn refused_map_is_told_in_the_words_beside_the_sample_and_nothing_written() {
+    let samples = PathBuf::from(env!("CARGO_MANIFEST_DIR")).join("../../drives");
+    let mistake = fs::read_to_string(samples.join("refused_map.mistake"));
+    let mistake = mistake.expect("the sample's mistake can be read");
+    let said = mistake.strip_prefix("make_drive: ").and_then(|said| said.strip_suffix('\n'));
+    check(&[], Some(&samples.join("refused_map.txt")), Err(said.expect("a line of make_drive")));
+}
+
+#[test]
 fn text_that_cannot_be_read_is_told_and_nothing_written() {
     let no_text = file("no_text", b"4 60\n0 4 0 0\ncell 0 \xFF\n");
     check(&[], Some(&no_text), Err("the text is not UTF-8"));

@@ -8,11 +8,8 @@ use Rattle.desk.proofs.print_report.Tie as tie
 report-on-requires : tie.Need-report-on-requires
 report-on-requires c κs = search needs
 
-enum-told : tie.Need-enum-told
-enum-told c = search needs
-
-enum-told-2 : tie.Need-enum-told-2
-enum-told-2 c = search needs
+file-of-requires : tie.Need-file-of-requires
+file-of-requires c κs = search needs
 
 array-share-prefix-out : tie.Need-array-share-prefix-out
 array-share-prefix-out c = search needs
@@ -37,8 +34,7 @@ print-report-spec =
     tie.close
     (tie.spec
     report-on-requires
-    enum-told
-    enum-told-2
+    file-of-requires
     array-share-prefix-out
     slice-aggregate-write-all
     write-all-requires

@@ -4,7 +4,7 @@ use mathlib.Core.Path.{_≡_, sym, _∙_}
 use lib.ListN.{take}
 use borrow.Author.Tests.{not-true, not-false}
 use borrow.Author.Needs.{needs}
-use Rattle.plan.specs.Answers.{no-form, refused-form, found-short, found-many, found-large, Found, found-image}
+use Rattle.plan.specs.Answers.{found-formless, found-short, found-many, Found, found}
 use Rattle.plan.specs.Reading.{planBy}
 use Rattle.plan.specs.Steps.{readingOf}
 use Rattle.plan.specs.declared.Reading.the-variants.{Whole}
@@ -26,7 +26,7 @@ enum-told c = search needs
 returns : tie.Need-returns
 returns c =
     let read = c .before .before .before in
-    refused-form _ _ (no-form _ (sym (c .enum-told .given .1) ∙ read .read-numbers .ensures .0))
+    found-formless _ _ (sym (c .enum-told .given .1) ∙ read .read-numbers .ensures .0)
 
 -- the text has whole lines of so many numbers
 told : (c : tie.After-count) → Whole (c .count .given .0 .0) ≡ readingOf (c .before .before .before .before .before .before .before .args .text .now)
@@ -54,14 +54,23 @@ slice-aggregate-put-image-2 c = search needs
 put-image-requires : tie.Need-put-image-requires
 put-image-requires c κs = search needs
 
-returns-4 : tie.Need-returns-4
-returns-4 c =
-    let image = c .before .before in
-    let few = image .before .before .before in
+-- what was found of the image
+image : (c : tie.After-put-image) →
+    let few = c .before .before .before in
+    let count = few .before .before .before .before in
+    let start = count .before .before .before .before .before .before .before in
+    let lines = count .count .given .0 .0 / 4 in
+    let plan = planBy (take (2 + 4 * lines) (count .before .before .before .read-numbers .last .1 .0)) in
+    Found (start .args .text .now) (start .args .out .now) plan (8 + 8 * lines) (take (8 + 8 * lines) (c .put-image .last .0)) (c .put-image .result)
+image c =
+    let few = c .before .before .before in
     let short = few .before .before in
     let count = short .before .before in
-    found-large _ _ _ (told count) (sym (short .is-short .ensures) ∙ few .before .if1 .left) _
-    (count .before .before .before .read-numbers .ensures .1) (few .if2 .left) _ _ _ (image .put-image .ensures) (not-true _ (c .if3 .taken))
+    found _ _ _ (told count) (sym (short .is-short .ensures) ∙ few .before .if1 .left) _ (count .before .before .before .read-numbers .ensures .1)
+    (few .if2 .left) _ _ _ (c .put-image .ensures)
+
+returns-4 : tie.Need-returns-4
+returns-4 c = image (c .before .before) .large (not-true _ (c .if3 .taken))
 
 mul-size : tie.Need-mul-size
 mul-size c = search needs
@@ -72,36 +81,22 @@ add-size c = search needs
 array-share-prefix-image : tie.Need-array-share-prefix-image
 array-share-prefix-image c = search needs
 
--- the image is written
-found : (c : tie.Else3) →
-    let start = c .before .before .before .before .before .before .before .before .before .before .before .before .before .before .before .before in
-    let count = c .before .before .before .before .before .before .before .before .before .count .given .0 .0 in
-    let numbers = c .before .before .before .before .before .before .before .before .before .before .before .before .read-numbers .last .1 .0 in
-    let plan = planBy (take (2 + 4 * (count / 4)) numbers) in
-    let size = 8 + 8 * (count / 4) in
-    Found (start .args .text .now) (start .args .out .now) plan size (take size (c .before .before .put-image .last .0))
-found c =
-    let image = c .before .before in
-    let few = image .before .before .before in
-    let short = few .before .before in
-    let count = short .before .before in
-    found-image _ _ _ (told count) (sym (short .is-short .ensures) ∙ few .before .if1 .left) _
-    (count .before .before .before .read-numbers .ensures .1) (few .if2 .left) _ _ _ (image .put-image .ensures) (not-false _ (c .if3 .left))
-
 slice-aggregate-is-good : tie.Need-slice-aggregate-is-good
-slice-aggregate-is-good c = sym (found (c .before) .long)
+slice-aggregate-is-good c = sym (image (c .before .before .before) .long (not-false _ (c .before .if3 .left)))
 
 is-good-requires : tie.Need-is-good-requires
 is-good-requires c κs = search needs
 
 returns-5 : tie.Need-returns-5
-returns-5 c = found (c .before .before .before) .bad (sym (c .before .is-good .ensures) ∙ not-true _ (c .if4 .taken))
+returns-5 c =
+    let made = c .before .before .before in
+    image (made .before .before) .bad (not-false _ (made .if3 .left)) (sym (c .before .is-good .ensures) ∙ not-true _ (c .if4 .taken))
 
 slice-aggregate-put-image-3 : tie.Need-slice-aggregate-put-image-3
 slice-aggregate-put-image-3 c = search needs
 
 put-image-requires-2 : tie.Need-put-image-requires-2
-put-image-requires-2 c κs = (found (c .before .before .before .before .before) .room, search needs, search needs)
+put-image-requires-2 c κs = (image (c .before .before .before .before .before .before .before) .room, search needs, search needs)
 
 cast-t25 : tie.Need-cast-t25
 cast-t25 c = search needs
@@ -113,7 +108,9 @@ returns-6 : tie.Need-returns-6
 returns-6 c =
     let again = c .before .before in
     let good = again .before .before .before in
-    found (good .before .before .before) .good (sym (good .before .is-good .ensures) ∙ not-false _ (good .if4 .left)) (again .put-image2 .ensures)
+    let made = good .before .before .before in
+    image (made .before .before) .good (not-false _ (made .if3 .left)) (sym (good .before .is-good .ensures) ∙ not-false _ (good .if4 .left))
+    (again .put-image2 .ensures)
 
 pub write-map-spec : {M : Type 1} → statement M
 write-map-spec =

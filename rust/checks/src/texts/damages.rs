@@ -9,15 +9,16 @@ use model::Image;
 /// A kind of damage by its name, what it leaves of the form, and the text that it makes of a map.
 pub type Damage = (&'static str, Form, fn(&mut Random, Image) -> Vec<u8>);
 
-/// The damage that breaks the rules of the map one by one.
+/// The damage that breaks the rules of the map one by one. It leaves the text as it was where the
+/// same is drawn again, or a field that is the image's alone: E or the zero bytes.
 pub const CHANGED: Damage =
-    ("a number changed", Kept, |random, map| spelled(&changed(random, map)));
+    ("a field or the order drawn anew", Kept, |random, map| spelled(&changed(random, map)));
 
 /// Every kind of damage.
 pub const DAMAGES: &[Damage] = &[
     CHANGED,
     ("no damage", Kept, |_, map| spelled(&map)),
-    ("two numbers changed", Kept, |random, map| {
+    ("a field or the order drawn anew, twice", Kept, |random, map| {
         let once = changed(random, map);
         spelled(&changed(random, once))
     }),
@@ -131,7 +132,7 @@ pub const DAMAGES: &[Damage] = &[
     }),
 ];
 
-/// The map with a field damaged, or its entries in another order.
+/// The map with a field or the order of its entries drawn anew.
 fn changed(random: &mut Random, mut map: Image) -> Image {
     maps::damage_field(random, &mut map);
     map
