@@ -132,8 +132,8 @@ ended-shown t numbers value h =
 digit-shown : (t numbers : List ℕ) (value c : ℕ) → Shown t (within numbers value) → isDigit c ≡ true
     → Shown (t ++ (c ∷ [])) (digitMore numbers value c)
 digit-shown t numbers value c h e =
-    cond-keeps (Shown (t ++ (c ∷ []))) (ltb 0 value && leb (value * 10 + (c - 48)) 65535) _ _
-    (λ y. let r = and (ltb 0 value) (leb (value * 10 + (c - 48)) 65535) y in more-shown t numbers value c h e (ltb-true _ _ (r .0)) (leb-true _ _ (r .1)))
+    cond-keeps (Shown (t ++ (c ∷ []))) _ _ _
+    (λ y. let r = and (ltb 0 value) _ y in more-shown t numbers value c h e (ltb-true _ _ (r .0)) (leb-true _ _ (r .1)))
     (λ n. tt)
 
 step-shown : (t : List ℕ) (s : Progress) (c : ℕ) → Shown t s → Shown (t ++ (c ∷ [])) (step s c)
