@@ -69,15 +69,21 @@ fn file_of(stream: Stream) -> i32
     }
 }
 
-// Prints what `report` makes of the input. A refusal that standard error does not take is lost: there
-// is no other place to say so.
+// Prints what `report` makes of the input. Output that cannot be written is told; for a refusal that
+// standard error does not take there is no other place to say so.
 fn print_report(program: Program, input: &[u8]) {
     let mut out = [0u8; 512];
     let report = report::report_on(program, input, &mut out);
     let count = report.count;
     let stream = report.stream;
-    if !io::write_all(file_of(stream), &out[..count]) {
-        tell(program, Failure::Output);
+    let written = io::write_all(file_of(stream), &out[..count]);
+    match stream {
+        Stream::Output => {
+            if !written {
+                tell(program, Failure::Output);
+            }
+        }
+        Stream::Errors => {}
     }
 }
 

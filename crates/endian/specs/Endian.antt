@@ -27,7 +27,7 @@ bytes2 v = v % 256 ∷ v / 256 ∷ []
 abbrev pub bytes4 : ℕ → List ℕ
 bytes4 v = v % 256 ∷ v / 256 % 256 ∷ v / 65536 % 256 ∷ v / 16777216 ∷ []
 
--- what is written reads back
+-- what is written reads back: the two bytes of `bytes2` as `u16At` puts them together, and four
 pub reads-back-2 : (v : ℕ) → v % 256 + 256 * (v / 256) ≡ v
 reads-back-2 v = omega arith
 
@@ -35,13 +35,14 @@ pub reads-back : (v : ℕ) (rest : List ℕ) → u32At (bytes4 v ++ rest) 0 ≡ 
 unfolding u32At u16At
 reads-back v rest = omega arith
 
--- a number is read from its four bytes
+-- a u16 behind the first k bytes
 pub u16-drop : (s : List ℕ) (k j : ℕ) → u16At (drop k s) j ≡ u16At s (k + j)
 unfolding u16At
 u16-drop s k j =
     let e : k + (j + 1) ≡ k + j + 1 = omega arith in
     rw (getD-drop k s j 0, getD-drop k s (j + 1) 0, e)
 
+-- a number is read from its four bytes
 pub u32-at : (s : List ℕ) (k v : ℕ) → take 4 (drop k s) ≡ bytes4 v → u32At s k ≡ v
 unfolding u32At
 u32-at s k v e =

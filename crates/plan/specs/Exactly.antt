@@ -44,9 +44,11 @@ One t before = (p : Plan) × Ready t before p × (SomeMap p → ⊥)
 
 -- what an accepted call leaves: a valid map with the text's fields, "with E = 8", and nothing past it has changed
 pub record Image (p : Plan) (before after : List ℕ) (n : ℕ) : Type 0 where
+  -- as long as is answered, 8 bytes and 8 more per partition line
   pub size : n ≡ roomFor p
   pub valid : Valid (take n after) p
   pub offset : headerOf (take n after) .offset ≡ 8
+  -- past it every byte is as it was, and the buffer as long
   pub past : drop n after ≡ drop n before
   pub same : length after ≡ length before
 
@@ -93,7 +95,7 @@ module _ (t before : List ℕ) where
       (λ (f : hasForm t ≡ false). subst Way (writing-at t before 0 tt (ap not f)) (formless (λ p g. false≢true (sym f ∙ form-has t p g .0))))
       (decided (hasForm t))
 
-  -- a map with the fields of a plan, and its image with E = 8
+  -- where the image with E = 8 breaks a rule, no valid map has the fields
   no-map : (p : Plan) → mapGood (imageOf p) ≡ false → SomeMap p → ⊥
   no-map p m v = false≢true (sym m ∙ also-good (v .0) p (v .1 .good) (v .1 .reads))
 

@@ -32,7 +32,7 @@ text-most t p f =
     let all = flat-most 0 (numbersOf p) (f .small) in
     omega (arith, ap length (f .is), ap length (text-is p), all, numbers-length p)
 
--- whatever is made of the answer: the first refusal is 16
+-- a longer text is refused with 16, whatever is made of a refusal and of an accepted text
 pub too-long : {A : Type 0} (t : List ℕ) (room : ℕ) → room < 8 + 8 * 17 → 396 < length t → (refuse : ℕ → A) (accepted : A)
     → firstOf refuse (writingTests t room) accepted ≡ refuse 16
 too-long t room m l refuse accepted =
@@ -41,6 +41,7 @@ too-long t room m l refuse accepted =
     (λ (f : hasForm t ≡ false). rw f)
     (decided (hasForm t))
 
+-- so what lies past the longest text decides nothing more
 pub past-any-text : (before t : List ℕ) (k : ℕ) → length before < 8 + 8 * 17 → 396 < k → k ≤ length t
     → writingOf (take k t) before ≡ writingOf t before
 unfolding writingOf

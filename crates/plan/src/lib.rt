@@ -34,7 +34,7 @@ enum Reading {
 // The largest number of a text.
 const MOST: u32 = 65535;
 
-// In the place of a number's value: no digit of it has been read, or it is none.
+// In the place of a number's value: no digit of it has been read, or its digits are no number.
 const NONE: u32 = 65536;
 
 // The numbers of a text with the most partitions that a map has.
@@ -166,7 +166,8 @@ fn put_image(image: &mut [u8], numbers: &[u16], lines: usize) -> bool
 
 // Writes the image of a text into the front of the lent buffer. The rest of the buffer keeps its
 // bytes, and so does all of it where the text is refused: the image is judged in an array of ours, and
-// then written a second time, since a copy of so many bytes would be a call of C's `memcpy`.
+// then written a second time, since of a copy whose length is not known before the call the compiler
+// makes a call of C's `memcpy`.
 pub fn write_map(text: &[u8], out: &mut [u8]) -> Answer
     ensures { λ r. ⌜ outcome r (now (out .exit)) ≡ writingOf (now (text .entry)) (now (out .entry)) ⌝ }
 {

@@ -1,5 +1,6 @@
--- What each of the desk's programs prints for the bytes that it reads: `status` (document 01, "A status program") and `why` (document 02,
--- request P1), which read the same input and refuse it in the same order, and `make_map` (request P2). Assumes nothing.
+-- What each of the programs prints for the bytes that it reads: `status` (document 01, "A status program") and `why` (document 02,
+-- request P1), which read the same input and refuse it in the same order, and `make_map` (ours, for
+-- request P2). Assumes nothing.
 use Prim.Native.Nat.{ℕ, _≤_}
 use mathlib.Core.Path.{_≡_}
 use mathlib.Core.List.{List, _++_}
@@ -56,8 +57,8 @@ onOutput bytes = record { stream = Output; bytes = bytes }
 abbrev pub onErrors : (bytes : List ℕ) → Saying
 onErrors bytes = record { stream = Errors; bytes = bytes }
 
--- request P2, `make_map`: the image of the text, with a buffer for 16 partitions. Ours: a refusal goes to standard error, since standard
--- output takes an image and nothing else
+-- ours, for request P2: `make_map` prints the image of the text, with a buffer for 16 partitions. A refusal goes to standard error, since
+-- standard output takes an image and nothing else
 unfoldable pub mapReport : (input : List ℕ) → Saying
 mapReport input = firstOf (λ number. onErrors (refusedLine number)) (writingTests input 136) (onOutput (planImage (planOf input)))
 

@@ -57,7 +57,7 @@ fn of_changing() -> Vec<Used> {
         *context == STARTED
     });
     vec![
-        ("map", map),
+        ("write map", map),
         ("READ", of_direct(Command::Read { cell: SOFTWARE_WORD })),
         ("WRITE", of_direct(Command::Write { cell: SOFTWARE_WORD, value: 5 })),
         ("ZEROIZE", of_direct(Command::Zeroize { cell: SLOT_WORD })),

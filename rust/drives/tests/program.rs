@@ -50,6 +50,12 @@ fn refused_map_is_told_in_the_words_beside_the_sample_and_nothing_written() {
 fn text_that_cannot_be_read_is_told_and_nothing_written() {
     let no_text = file("no_text", b"4 60\n0 4 0 0\ncell 0 \xFF\n");
     check(&[], Some(&no_text), Err("the text is not UTF-8"));
+    let utf_16 =
+        "line 1: the text begins with a byte order mark of UTF-16, the bytes FF FE or FE FF: \
+        save it as UTF-8 without one";
+    for bytes in [b"\xFF\xFE4\0 \06\0", b"\xFE\xFF\04\0 \06"] {
+        check(&[], Some(&file("utf_16", bytes)), Err(utf_16));
+    }
     let missing = PathBuf::from("no/such/text");
     let two = "name one text, or none to read standard input";
     check(&[&missing, &missing], None, Err(two));

@@ -102,7 +102,7 @@ impl Call {
             Call::States => "states",
             Call::Why => "why",
             Call::Place(_) => "place",
-            Call::WriteMap(_) => "map",
+            Call::WriteMap(_) => "write map",
             Call::Direct(Command::Read { .. }) => "READ",
             Call::Direct(Command::Write { .. }) => "WRITE",
             Call::Direct(Command::Zeroize { .. }) => "ZEROIZE",

@@ -20,14 +20,23 @@ slice-aggregate-write-all c = simp length-take (omega (arith, c .before .before 
 write-all-requires : tie.Need-write-all-requires
 write-all-requires c κs = search needs
 
+enum-told : tie.Need-enum-told
+enum-told c = search needs
+
 tell-requires : tie.Need-tell-requires
 tell-requires c κs = search needs
+
+enum-told-2 : tie.Need-enum-told-2
+enum-told-2 c = search needs
 
 returns : tie.Need-returns
 returns c = search needs
 
 returns-2 : tie.Need-returns-2
 returns-2 c = search needs
+
+returns-3 : tie.Need-returns-3
+returns-3 c = search needs
 
 pub print-report-spec : {M : Type 1} → statement M
 print-report-spec =
@@ -38,6 +47,9 @@ print-report-spec =
     array-share-prefix-out
     slice-aggregate-write-all
     write-all-requires
+    enum-told
     tell-requires
+    enum-told-2
     returns
-    returns-2)
+    returns-2
+    returns-3)

@@ -9,7 +9,7 @@ const OUTCOMES: [(&str, &[&str], &[u32]); 17] = [
     ("states", &[], &[1, 2]),
     ("why", &["available", "no slot", "all erased", "blank", "torn"], &[1, 2]),
     ("place", &["empty", "held"], &[]),
-    ("map", &["written"], &[16, 1]),
+    ("write map", &["written"], &[16, 1]),
     ("READ", &["word"], &[1, 2, 7, 8]),
     ("WRITE", &["word", "done"], &[1, 2, 7, 8, 9, 10]),
     ("ZEROIZE", &["word", "withheld"], &[1, 2, 7, 8, 10]),

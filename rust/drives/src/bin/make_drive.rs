@@ -9,6 +9,11 @@ use std::io::{self, Read, Write};
 use std::process::ExitCode;
 use std::{env, fs};
 
+/// What an editor on Windows may write as "Unicode".
+const UTF_16: &str = "\
+    line 1: the text begins with a byte order mark of UTF-16, the bytes FF FE or FE FF: save it as \
+    UTF-8 without one";
+
 fn main() -> ExitCode {
     match make() {
         Ok(()) => ExitCode::SUCCESS,
@@ -34,6 +39,9 @@ fn text() -> Result<String, Box<dyn Error>> {
         [] => io::stdin().read_to_end(&mut bytes).map(|_| ())?,
         [name] => bytes = fs::read(name).map_err(|e| format!("{}: {e}", name.to_string_lossy()))?,
         _ => return Err("name one text, or none to read standard input".into()),
+    }
+    if bytes.starts_with(&[0xFF, 0xFE]) || bytes.starts_with(&[0xFE, 0xFF]) {
+        return Err(UTF_16.into());
     }
     String::from_utf8(bytes).map_err(|_| "the text is not UTF-8".into())
 }
