@@ -1,5 +1,5 @@
 //! Measures of the key block: its calls against safe Rust on the same inputs,
-//! all in one run, and the stack that each call uses.
+//! all in one run.
 #![forbid(unsafe_code)]
 #![deny(missing_docs)]
 

@@ -1,18 +1,13 @@
 //! What is measured: calls, and what they find.
 
-use checks::random::Random;
-use checks::{small, texts};
+use checks::largest::{self, every_state, last_slot_active, last_slot_torn, TAIL};
+use checks::maps::MOST_CELLS as CELLS;
+use checks::{lent, small, texts};
 use model::{
     entry, Call, Drive, Erase, Image, Lent, Mail, Request, Values, HARDWARE, SLOT_FLAGS, SOFTWARE,
     ZEROIZABLE,
 };
-use sciambrunola::{BLOCK_BYTES, LEAST_RESPONSE, LONGEST_IMAGE, PARTITIONS};
-
-const CELLS: usize = 2048;
-/// The cells of a partition of the largest map.
-const SHARE: usize = CELLS / PARTITIONS;
-/// The cells behind a zeroizable partition's data.
-const TAIL: usize = 4;
+use sciambrunola::LONGEST_IMAGE;
 
 /// How many places are held where a key is loaded or unloaded, with tags that
 /// count up from the first; KUNL names the last of them.
@@ -43,7 +38,7 @@ pub fn all() -> Vec<Row> {
     let (pairs, singles) =
         (one_partition(HARDWARE, SLOT_FLAGS), one_partition(SOFTWARE, ZEROIZABLE));
     // The fields of the last partition, for which the whole map is judged.
-    let last = Call::Partition(PARTITIONS as u32 - 1);
+    let last = Call::Partition(largest::LAST);
     let mut rows = vec![states(), row("map check, 16 partitions, 256 bytes", every_state(), last)];
     rows.extend(erasures("erasure, 2,048 cells in pairs", pairs));
     rows.extend(erasures("erasure, 2,048 single cells", singles));
@@ -51,7 +46,7 @@ pub fn all() -> Vec<Row> {
     rows.extend(Mail::ALL.map(|command| mailbox(command, "largest map", last_slot_active())));
     rows.push(row("why, largest map", last_slot_torn(), Call::Why));
     rows.push(write_map("small drive", small::MAP_TEXT.into()));
-    rows.push(write_map("largest map", texts::spelled(&slots())));
+    rows.push(write_map("largest map", texts::spelled(&largest::slots())));
     rows
 }
 
@@ -67,9 +62,7 @@ fn erasures(name: &str, drive: Drive) -> [Row; 2] {
 
 /// A call with an empty cache, on a drive that it leaves fit for the same again.
 fn row(name: &str, drive: Drive, call: Call) -> Row {
-    let (block, response) = (vec![0xB1; BLOCK_BYTES], vec![0xA5; LEAST_RESPONSE]);
-    let start = Lent { drive, block, response, ..Lent::default() };
-    Row { name: name.to_string(), start, call, put_back: false }
+    Row { name: name.to_string(), start: lent::of(drive), call, put_back: false }
 }
 
 /// A mailbox call for partition 0 that is carried out.
@@ -80,8 +73,7 @@ fn mailbox(command: Mail, drive_name: &str, drive: Drive) -> Row {
     let call = Call::Mailbox(Request::of(command, &values));
     let mut row = row(&format!("{}, {drive_name}", command.name()), drive, call);
     if matches!(command, Mail::Klod | Mail::Kunl) {
-        let places = row.start.cache.places.iter_mut().zip(FIRST_TAG..).take(HELD);
-        places.for_each(|(place, tag)| *place = Some(tag));
+        row.start = lent::holding(row.start, FIRST_TAG..=LAST_TAG);
         row.put_back = true;
     }
     row
@@ -101,57 +93,4 @@ fn one_partition(kind: u8, flags: u8) -> Drive {
     let image = Image { cells: CELLS as u16, bound: 60, entries_at: 8, entries };
     let marks = (0..CELLS).map(|cell| if cell % 6 == 0 { 0x0F } else { 0 }).collect();
     Drive { image: image.bytes(), cells: vec![0; CELLS], marks }
-}
-
-/// The largest map, 16 slots in 2,048 cells, with an image of 256 bytes.
-fn slots() -> Image {
-    let slot = |i: usize| entry((i * SHARE) as u16, SHARE as u16, HARDWARE, SLOT_FLAGS);
-    let entries = (0..PARTITIONS).map(slot).collect();
-    Image { cells: CELLS as u16, bound: 60, entries_at: 128, entries }
-}
-
-/// A drive with that map, and each slot filled by its number.
-fn largest(fill: impl Fn(usize, &mut [u32])) -> Drive {
-    let mut cells = vec![0; CELLS];
-    cells.chunks_exact_mut(SHARE).enumerate().for_each(|(i, part)| fill(i, part));
-    Drive { image: slots().bytes(), cells, marks: vec![0; CELLS] }
-}
-
-/// The slots are erased, torn, blank and programmed in turn.
-fn every_state() -> Drive {
-    largest(|i, part| match i % 4 {
-        0 => part.fill(u32::MAX),
-        1 => {
-            program(i, part);
-            part[SHARE - 2..].fill(u32::MAX);
-        }
-        2 => {}
-        _ => program(i, part),
-    })
-}
-
-/// Every slot is erased but the last, which is programmed: the active slot is
-/// found after all others.
-fn last_slot_active() -> Drive {
-    largest(|i, part| match i {
-        15 => program(i, part),
-        _ => part.fill(u32::MAX),
-    })
-}
-
-/// The same with the last slot torn, and its digest alone short: its lowest short pair
-/// is found after all its data.
-fn last_slot_torn() -> Drive {
-    largest(|i, part| {
-        part.fill(u32::MAX);
-        if i == 15 {
-            part[SHARE - TAIL] = 0;
-        }
-    })
-}
-
-/// Fills a slot's data with a seed.
-fn program(number: usize, part: &mut [u32]) {
-    let mut random = Random::new(number as u64);
-    part[..SHARE - TAIL].fill_with(|| random.cell());
 }

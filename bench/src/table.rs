@@ -3,7 +3,6 @@
 use crate::measure::Measure;
 use crate::sides::{LIBRARY, MODEL, PLAIN};
 use checks::runner::in_repository;
-use checks::stack;
 use std::fs;
 use std::path::PathBuf;
 
@@ -56,11 +55,10 @@ pub fn write(text: &str) {
     fs::write(readme, [before, text, after].concat()).expect("README.md can be written");
 }
 
-/// The table of these measures, with the stack of each call.
+/// The table of these measures.
 pub fn text(measures: &[Measure]) -> String {
     let rows: String = measures.iter().map(line).collect();
-    let used = stack::listed(&stack::of_every_call());
-    format!("{HEAD}{rows}{NOTE}\nStack in bytes, the safe Rust call included: {used}.\n")
+    format!("{HEAD}{rows}{NOTE}")
 }
 
 fn line(measure: &Measure) -> String {

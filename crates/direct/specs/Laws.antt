@@ -122,6 +122,12 @@ module _ (image marks : List ℕ) (command : Command) (s : State) where
 
 -- ---- what is found
 
+-- what was found, by the check and the word that were asked for, is what a command finds
+pub found-is : (image cells marks : List ℕ) (cell : ℕ) {check : Check} {found f : Found} → check ≡ checkOf image cells marks
+    → found ≡ foundBy check (wordAt image cell) → found ≡ f → f ≡ foundOf image cells marks cell
+unfolding foundOf
+found-is image cells marks cell c e q = sym q ∙ e ∙ ap (λ (check : Check). foundBy check (wordAt image cell)) c
+
 -- a word that was found lies in the drive that was judged
 module _ (image cells marks : List ℕ) (cell : ℕ) where
   in-drive : {header : Header} {i : ℕ} {role : Role} {wide : Bool} → Ready header ≡ checkOf image cells marks → Word i role wide ≡ wordAt image cell

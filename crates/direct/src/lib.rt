@@ -15,8 +15,9 @@ ghost use Prim.Native.Nat.{ℕ, _+_, _≤_};
 ghost use mathlib.Core.List.{List};
 ghost use lib.ListN.{length};
 ghost use Rattle.fuse.specs.Fuse.{cellsIn};
+ghost use Rattle.word.specs.Word.{wordAt};
 ghost use Rattle.context.specs.State.{state, outcome};
-ghost use Rattle.direct.specs.Direct.{wordOf, isData, answerOf, foundOf, directOf};
+ghost use Rattle.direct.specs.Direct.{wordOf, isData, answerOf, foundBy, directOf};
 
 // A command and the word that it names, by its first cell in the whole array.
 pub enum Command {
@@ -65,11 +66,12 @@ fn word_of(cells: &[u32], at: usize, wide: bool) -> u64
     fuse::pair(cells[at], 0)
 }
 
-// The word that starts at a cell: refusals 1, 2 and 7.
-fn find(image: &[u8], cells: &[u32], marks: &[u32], cell: u32) -> Found
-    ensures { λ r. ⌜ r ≡ foundOf (now (image .entry)) (now (cells .entry)) (now (marks .entry)) cell ⌝ }
+// The word that starts at a cell of a drive, by the drive's check: refusals 1, 2 and 7. The callers
+// check the drive, so that the frames of the two are not in use at once.
+fn find(check: Check, image: &[u8], cell: u32) -> Found
+    ensures { λ r. ⌜ r ≡ foundBy check (wordAt (now (image .entry)) cell) ⌝ }
 {
-    match drive::check_drive(image, cells, marks) {
+    match check {
         Check::Refused(number) => Found::Refused(number),
         Check::Ready(_) => match word::word_at(image, cell) {
             Lookup::Nothing => Found::Refused(7),
@@ -114,7 +116,7 @@ pub fn read(image: &[u8], cells: &[u32], marks: &[u32], cell: u32) -> Answer
     ensures { λ r. ⌜ ((context : List ℕ) → outcome r (state (now (cells .entry)) context)
         ≡ directOf (now (image .entry)) (now (marks .entry)) (Command.Read cell) (state (now (cells .entry)) context)) ⌝ }
 {
-    match find(image, cells, marks, cell) {
+    match find(drive::check_drive(image, cells, marks), image, cell) {
         Found::Refused(number) => Answer::Refused(number),
         Found::Word {
             partition,
@@ -142,7 +144,7 @@ pub fn write(
     ensures { λ r. ⌜ outcome r (state (now (cells .exit)) (now (context .entry)))
         ≡ directOf (now (image .entry)) (now (marks .entry)) (Command.Write cell value) (state (now (cells .entry)) (now (context .entry))) ⌝ }
 {
-    match find(image, cells, marks, cell) {
+    match find(drive::check_drive(image, cells, marks), image, cell) {
         Found::Refused(number) => Answer::Refused(number),
         Found::Word {
             partition,
@@ -182,7 +184,7 @@ pub fn zeroize(
     ensures { λ r. ⌜ outcome r (state (now (cells .exit)) (now (context .entry)))
         ≡ directOf (now (image .entry)) (now (marks .entry)) (Command.Zeroize cell) (state (now (cells .entry)) (now (context .entry))) ⌝ }
 {
-    match find(image, cells, marks, cell) {
+    match find(drive::check_drive(image, cells, marks), image, cell) {
         Found::Refused(number) => Answer::Refused(number),
         Found::Word {
             partition,

@@ -91,7 +91,8 @@ pub fn counted_at(image: &[u8], cells: &[u32], i: u32) -> bool
     partition::is_counted(part_of(image, cells, i), terms.bound, terms.zeroizable)
 }
 
-// Partition `i` as the active slot: absent where it is no slot or is erased.
+// Partition `i` as the active slot: absent where it is no slot or is erased. It surveys its part itself:
+// a call of `survey_at` would put one more frame below the mailbox.
 fn slot_at(image: &[u8], cells: &[u32], i: u32) -> ActiveSlot
     requires { ⌜ Whole (now image) (now cells) × (i < headerOf (now image) .partitions) ⌝ }
     ensures { λ r. ⌜ r ≡ slotAt (now (image .entry)) (now (cells .entry)) i ⌝ }
@@ -99,7 +100,8 @@ fn slot_at(image: &[u8], cells: &[u32], i: u32) -> ActiveSlot
     if !map::is_slot(map::read_entry(image, i)) {
         return ActiveSlot::Absent;
     }
-    let survey = survey_at(image, cells, i);
+    let terms = terms_of(image, i);
+    let survey = partition::survey_cells(part_of(image, cells, i), terms.bound, terms.zeroizable);
     let state = survey.state;
     match state {
         State::Erased => ActiveSlot::Absent,
@@ -165,6 +167,14 @@ pub fn active_in(image: &[u8], cells: &[u32]) -> ActiveSlot
         i += 1;
     };
     active
+}
+
+// Whether the HEK of a drive that was judged is available.
+pub fn is_hek_available(image: &[u8], cells: &[u32]) -> bool
+    requires { ⌜ Whole (now image) (now cells) ⌝ }
+    ensures { λ r. ⌜ r ≡ available (activeSlot (now (image .entry)) (now (cells .entry))) ⌝ }
+{
+    is_available(active_in(image, cells))
 }
 
 // Whether a partition is a slot while a key is held, refusal 10 of what would change it.

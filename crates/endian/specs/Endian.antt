@@ -1,10 +1,10 @@
 -- Document 01: "A little-endian image", and "each a little-endian u32". A byte past the end reads as 0. Assumes nothing.
-use Prim.Native.Nat.{ℕ, suc, _+_, _*_, _/_, _%_, _≤_}
+use Prim.Native.Nat.{ℕ, suc, _+_, _*_, _/_, _%_, _≤_, _<_}
 use mathlib.Core.Path.{_≡_, sym, ap, _∙_}
 use mathlib.Core.List.{List, [], _∷_, _++_}
 use native.Mathlib.Omega.{arith}
 use lib.ListN.{length, getD, set, take, drop, take-append-drop, List·getD-eq-default}
-use lib.Seq.{sets-eq, getD-drop}
+use lib.Seq.{sets-eq, getD-take, getD-drop}
 use Rattle.laws.specs.Put.{Put, put-is}
 
 -- the byte at k
@@ -41,6 +41,16 @@ unfolding u16At
 u16-drop s k j =
     let e : k + (j + 1) ≡ k + j + 1 = omega arith in
     rw (getD-drop k s j 0, getD-drop k s (j + 1) 0, e)
+
+-- a byte and a u16 in a part of the bytes: the first n from place `at` on
+pub byte-part : (s : List ℕ) (at n k : ℕ) → k < n → byteAt (take n (drop at s)) k ≡ byteAt s (at + k)
+byte-part s at n k l = getD-take n (drop at s) k 0 l ∙ getD-drop at s k 0
+
+pub u16-part : (s : List ℕ) (at n k : ℕ) → k + 1 < n → u16At (take n (drop at s)) k ≡ u16At s (at + k)
+unfolding u16At
+u16-part s at n k l =
+    let e : at + (k + 1) ≡ at + k + 1 = omega arith in
+    rw (byte-part s at n k (omega arith), byte-part s at n (k + 1) l, e)
 
 -- a number is read from its four bytes
 pub u32-at : (s : List ℕ) (k v : ℕ) → take 4 (drop k s) ≡ bytes4 v → u32At s k ≡ v

@@ -1,10 +1,9 @@
-// The mailbox: a code and a request go in; out come a reply with the engine's order, the engine block
-// and a response in the lent buffers, and the fuses and the context as the command leaves them. First
-// the call is judged, its effect found and, for FERS, the erasure run; then the context and the block
-// are written by the effect's order, and the response by its numbers. A refusal changes nothing, but
-// for the indicator that 15 leaves burned. `call` is the entry point: it answers for any bytes and any
-// lengths. The definitions are in `specs/Mailbox`, the laws in `specs/Laws` and `specs/Told`. It rests
-// on `codec`, `engine`, `cache`, `context`, `erasure` and `drive`, and on what lies below them.
+// The mailbox: a code and a request go in; out come a reply with the engine's order, a response and the
+// engine block, both written straight into the lent buffers, and the fuses and the context as the
+// command leaves them. A call is judged and its effect found, for FERS by its erasure; then it is
+// written out unless it is refused: a refusal changes nothing, but for the indicator that 15 leaves
+// burned. `call` answers for any bytes and any lengths. The definitions are in `specs/Mailbox`, the laws
+// in `specs/Laws` and `specs/Told`. It rests on `codec`, `engine`, `erasure` and what lies below them.
 use cache::Sought;
 use codec::Command;
 use codec::Numbers;
@@ -16,7 +15,7 @@ use erasure::Answer;
 ghost use mathlib.Core.Path.{_≡_};
 ghost use lib.ListN.{length};
 ghost use Rattle.context.specs.State.{state, outcome};
-ghost use Rattle.drive.specs.Drive.{Whole};
+ghost use Rattle.drive.specs.Drive.{Whole, activeSlot};
 ghost use Rattle.mailbox.specs.Mailbox.{effect, refused, clearOf, fersOf, statusOf, hekNumber, loadEffect, unloadEffect, ownDone, doneOf, contextAfter, blockAfter, lent, mailboxOf, Fits};
 
 // What a command does that is not refused: what the engine is ordered, with the tag, and the numbers
@@ -69,7 +68,7 @@ fn load_effect(image: &[u8], cells: &[u32], context: &Context, request: &[u8]) -
     requires { ⌜ Whole (now image) (now cells) ⌝ }
     ensures { λ r. ⌜ r ≡ loadEffect (now (image .entry)) (now (request .entry)) (state (now (cells .entry)) (now (context .entry))) ⌝ }
 {
-    if !drive::is_available(drive::active_in(image, cells)) {
+    if !drive::is_hek_available(image, cells) {
         return refuse(11);
     }
     let tag = codec::tag_of(request);
@@ -103,8 +102,7 @@ fn unload_effect(context: &Context, request: &[u8]) -> Effect
     effect_with(Command::Kunl, order, tag, codec::no_numbers())
 }
 
-// What FERS does, by what its erasure answered. It is never cut: no order reaches the cut that it
-// names, so the last case does not happen.
+// What FERS does, by what its erasure answered. No order reaches its cut: the last case does not happen.
 fn fers_effect(answer: Answer) -> Effect
     ensures { λ r. ⌜ r ≡ fersOf answer ⌝ }
 {
@@ -152,9 +150,11 @@ fn hek_number(slot: ActiveSlot) -> u32
 }
 
 // What FSTA tells of the active slot.
-fn status_effect(slot: ActiveSlot) -> Effect
-    ensures { λ r. ⌜ r ≡ statusOf slot ⌝ }
+fn status_effect(image: &[u8], cells: &[u32]) -> Effect
+    requires { ⌜ Whole (now image) (now cells) ⌝ }
+    ensures { λ r. ⌜ r ≡ statusOf (activeSlot (now (image .entry)) (now (cells .entry))) ⌝ }
 {
+    let slot = drive::active_in(image, cells);
     effect_with(
         Command::Fsta,
         Order::Nothing,
@@ -191,7 +191,7 @@ fn own_effect(
         Command::Klod => load_effect(image, cells, context, request),
         Command::Kunl => unload_effect(context, request),
         Command::Fers => run_fers(image, cells, marks, context, request),
-        Command::Fsta => status_effect(drive::active_in(image, cells)),
+        Command::Fsta => status_effect(image, cells),
         Command::Unknown => refuse(3),
     }
 }

@@ -8,12 +8,12 @@ use mathlib.Core.List.{List}
 use native.Mathlib.Omega.{arith}
 use native.Mathlib.Numerals.{add-one}
 use native.Mathlib.Nat.{not-suc-le-zero, eq-or-lt-of-le, le-of-suc-le-suc}
-use lib.ListN.{length}
+use lib.ListN.{length, take, drop}
 use lib.Dec.{eqb}
 use borrow.Author.Tests.{leb-true, eqb-true, le-ltb, le-leb, eq-eqb, ne-eqb}
 use Rattle.laws.specs.Tests.{and, implies, not-both, every, every-at}
 use Rattle.laws.specs.Below.{allBelow, all-at}
-use Rattle.endian.specs.Endian.{byteAt, u16At}
+use Rattle.endian.specs.Endian.{byteAt, u16At, byte-part, u16-part}
 use Rattle.map.specs.declared.Header.{Header}
 use Rattle.map.specs.declared.Entry.{Entry}
 use Rattle.map.specs.Map.{headerOf, entryPlace, entryAt, entryOf, endOf, hardware, lifeCycle, zeroizable, secret, slot, headerGood, fillerGood, entryGood}
@@ -30,6 +30,19 @@ suc-sub k = omega arith
 
 pub end-next : (s : List ℕ) (i : ℕ) → endBefore s (i + 1) ≡ endOf (entryOf s i)
 end-next s i = simp (ne-eqb (i + 1) 0 (λ e. omega arith), suc-sub i)
+
+-- an entry, and its last two bytes, read from its own eight bytes, from byte `at` on
+module _ (s : List ℕ) (at : ℕ) where
+  eight : at + 8 - at ≡ 8
+  eight = omega arith
+
+  pub entry-own : entryAt (take (at + 8 - at) (drop at s)) 0 ≡ entryAt s at
+  entry-own =
+      let zero-in : at + 0 ≡ at = omega arith in
+      rw (eight, u16-part s at 8 0 (omega arith), u16-part s at 8 2 (omega arith), byte-part s at 8 4 (omega arith), byte-part s at 8 5 (omega arith), zero-in)
+
+  pub spare-own : u16At (take (at + 8 - at) (drop at s)) 6 ≡ u16At s (at + 6)
+  spare-own = rw eight (u16-part s at 8 6 (omega arith))
 
 -- what the code tests of the entry that starts at byte `at` is its rule
 pub place-is : (s : List ℕ) (i before cells at spare : ℕ) (x : Entry) (b : Bool) → before ≡ endBefore s i → cells ≡ headerOf s .cells → at ≡ entryPlace s i

@@ -160,9 +160,10 @@ fn entry_good(before: usize, cells: u16, x: Entry, spare: u16) -> bool
         & (!slot | zeroizable & secret)
 }
 
-// Whether the entries of an image with this header keep their rules.
+// Whether the entries of an image with this header, as long as it says, keep their rules. Each is read
+// from its own eight bytes, so that no byte is tested for lying past the image's end.
 fn entries_good(image: &[u8], h: Header) -> bool
-    requires { ⌜ h ≡ headerOf (now image) ⌝ }
+    requires { ⌜ (h ≡ headerOf (now image)) × (length (now image) ≡ h .offset + 8 * h .partitions) ⌝ }
     ensures { λ r. ⌜ r ≡ allBelow (placeGood (now (image .entry))) (h .partitions) ⌝ }
 {
     let partitions = h.partitions as u32;
@@ -170,8 +171,9 @@ fn entries_good(image: &[u8], h: Header) -> bool
     let mut end: usize = 0;
     let mut i: u32 = 0;
     while i < partitions {
-        let x = entry_at(image, at);
-        let spare = endian::u16_at(image, at + 6);
+        let entry = &image[at..at + 8];
+        let x = entry_at(entry, 0);
+        let spare = endian::u16_at(entry, 6);
         if !entry_good(end, h.cells, x, spare) {
             return false;
         }

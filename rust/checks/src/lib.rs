@@ -9,7 +9,9 @@ pub mod context;
 pub mod drives;
 pub mod faults;
 pub mod histories;
+pub mod largest;
 pub mod layout;
+pub mod lent;
 pub mod maps;
 #[allow(unsafe_code)]
 pub mod painted;

@@ -3,7 +3,8 @@
 use crate::random::Random;
 use model::{entry, Entry, Image, HARDWARE, LIFE_CYCLE, SECRET, SLOT_FLAGS, SOFTWARE, ZEROIZABLE};
 
-const MOST_CELLS: usize = 2048;
+/// The most cells of a map.
+pub const MOST_CELLS: usize = 2048;
 
 /// The kinds and flags a good entry may have. Slots stand there more than once,
 /// so that drives with several slots are common.

@@ -22,10 +22,14 @@ pub fn depth<T>(new: impl Fn() -> T, call: impl Fn(&mut T)) -> usize {
 }
 
 fn deepest<T>(new: &impl Fn() -> T, call: &impl Fn(&mut T)) -> usize {
-    let under = |paint| {
+    larger(|paint| {
         let mut thing = new();
         left_by(paint, &mut || call(&mut thing)).len()
-    };
+    })
+}
+
+/// The larger of what is found under the two paints.
+pub fn larger(under: impl FnMut(u8) -> usize) -> usize {
     PAINTS.into_iter().map(under).max().expect("there are two paints")
 }
 

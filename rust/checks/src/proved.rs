@@ -92,7 +92,8 @@ fn reason_of(reason: proved::Reason) -> Result<Reason, u32> {
     })
 }
 
-fn given(command: Command) -> proved::Command {
+/// The wrapper's own command.
+pub fn given(command: Command) -> proved::Command {
     match command {
         Command::Read { cell } => proved::Command::Read { cell },
         Command::Write { cell, value } => proved::Command::Write { cell, value },

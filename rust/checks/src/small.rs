@@ -1,11 +1,12 @@
 //! Document 01, "The small drive", with everything that a call is lent, and what
 //! the programs that play on it ask the proved key block and print.
 
+use crate::lent;
 use crate::proved::Proved;
 use model::{
     Call, Cut, Drive, Erase, Erasure, KeyBlock, Lent, Mail, Order, Reply, Request, Said, Values,
 };
-use sciambrunola::{States, BLOCK_BYTES, LEAST_RESPONSE};
+use sciambrunola::States;
 
 /// The partition that is a slot; the other one is software.
 pub const SLOT: u32 = 0;
@@ -20,13 +21,11 @@ pub const MAP: &[u8; 24] = &[
     0x06, 0x00, 0x06, 0x00, 0x01, 0x00, 0x00, 0x00,
 ];
 
-/// The drive with no key held and this mark on a cell. Block and response buffer
-/// hold bytes that no answer has.
+/// The drive with no key held and this mark on a cell.
 pub fn marked(cell: usize, mark: u32) -> Lent {
     let mut drive = Drive::small();
     drive.marks[cell] = mark;
-    let (block, response) = (vec![0xB1; BLOCK_BYTES], vec![0xA5; LEAST_RESPONSE]);
-    Lent { drive, block, response, ..Lent::default() }
+    lent::of(drive)
 }
 
 /// What the proved key block answers to the slot's erasure, cut or not.

@@ -1,123 +1,139 @@
-//! The stack that each command of the key block uses, in bytes, the safe Rust call and everything
-//! under it included: every command carried out, and mailbox commands refused; and of the calls
-//! that only read. It says something in an optimised build alone.
+//! The stack that each call of the key block uses, in bytes: as C makes it, and through the safe
+//! Rust function, its frame and everything under it included. The second says something in an
+//! optimised build alone; of the first the archive decides, however these tests are built.
 
-use crate::context;
-use crate::painted::depth;
-use crate::small::{self, MAP_TEXT, SLOT};
-use model::mailbox::fields::Command as Mail;
-use model::{Drive, Lent, Request, Values};
+mod cases;
+pub mod table;
+
+use crate::archive::Archive;
+use crate::painted::{depth, larger};
+use crate::proved::{self, Proved};
+use crate::{calls, context};
+use cases::Case;
+use model::{Call, Cut, Drive, Erase, KeyBlock, Lent, Request, Said};
 use sciambrunola::{direct, erase, erase_cut, mailbox, partition, restart, states, why, write_map};
 use sciambrunola::{Answer, Command, Context, Erasure, Fields, Reason, Reply, States};
 
-/// A software word of the small drive, which READ and WRITE may touch, and a
-/// slot word, which ZEROIZE may.
-const SOFTWARE_WORD: u32 = 6;
-const SLOT_WORD: u32 = 0;
-
-/// A call's name, and the bytes of stack that it uses.
-pub type Used = (&'static str, usize);
-
-/// The stack of every call.
-pub fn of_every_call() -> Vec<Used> {
-    [of_reading(), of_changing()].concat()
+/// The bytes of stack that a call uses, or the most that some calls do.
+#[derive(Clone, Copy, Debug)]
+pub struct Used {
+    /// Made as C makes it: below its stack arguments, the return address included.
+    pub c: usize,
+    /// Through the safe Rust function, all of its arguments included.
+    pub safe_rust: usize,
 }
 
-/// That of the calls that only read.
-fn of_reading() -> Vec<Used> {
-    let fields = carried_out(None, |Drive { image, .. }, _| {
-        matches!(partition(image, SLOT), Fields::Partition { .. })
-    });
-    let states = carried_out(None, |Drive { image, cells, marks }, _| {
-        matches!(states(image, cells, marks), States::Listed(_))
-    });
-    // With its indicator burned the slot is torn, and its short pair is looked for.
-    let why = carried_out(None, |Drive { image, cells, marks }, _| {
-        (cells[4], cells[5]) = (u32::MAX, u32::MAX);
-        matches!(why(image, cells, marks), Reason::Torn { .. })
-    });
-    let place = carried_out(Some(1), |_, context| context.place(9) == Some(1));
-    vec![("fields", fields), ("states", states), ("why", why), ("place", place)]
+/// The most that the cases of each row use, the rows by their names and in the table's order.
+pub fn of_every_row() -> Vec<(String, Used)> {
+    let mut rows: Vec<(String, Used)> = vec![];
+    for case in cases::all() {
+        let (name, Used { c, safe_rust }) = (named(&case), of(&case));
+        match rows.iter_mut().find(|(row, _)| *row == name) {
+            Some((_, most)) => {
+                *most = Used { c: most.c.max(c), safe_rust: most.safe_rust.max(safe_rust) }
+            }
+            None => rows.push((name, Used { c, safe_rust })),
+        }
+    }
+    rows
 }
 
-/// That of the others.
-fn of_changing() -> Vec<Used> {
-    static STARTED: Context = Context::new();
-    let map = carried_out(None, |Drive { image, .. }, _| {
-        write_map(MAP_TEXT.as_bytes(), image) == Ok(image.len())
-    });
-    let erasure = carried_out(None, |Drive { image, cells, marks }, context| {
-        matches!(erase(image, cells, marks, context, SLOT), Erasure::Ended { .. })
-    });
-    let cut_erasure = carried_out(None, |Drive { image, cells, marks }, context| {
-        matches!(erase_cut(image, cells, marks, context, SLOT, 2, 1), Erasure::Cut { .. })
-    });
-    let restart = carried_out(Some(1), |_, context| {
-        restart(context);
-        *context == STARTED
-    });
-    vec![
-        ("write map", map),
-        ("READ", of_direct(Command::Read { cell: SOFTWARE_WORD })),
-        ("WRITE", of_direct(Command::Write { cell: SOFTWARE_WORD, value: 5 })),
-        ("ZEROIZE", of_direct(Command::Zeroize { cell: SLOT_WORD })),
-        ("erasure", erasure),
-        ("cut erasure", cut_erasure),
-        ("restart", restart),
-        ("CLKC", of_mailbox(Mail::Clkc, Some(1), true)),
-        ("KLOD", of_mailbox(Mail::Klod, Some(2), true)),
-        ("KLOD refused", of_mailbox(Mail::Klod, Some(1), false)),
-        ("KUNL", of_mailbox(Mail::Kunl, Some(1), true)),
-        ("KUNL refused", of_mailbox(Mail::Kunl, Some(2), false)),
-        ("FERS", of_mailbox(Mail::Fers, None, true)),
-        ("FERS refused", of_mailbox(Mail::Fers, Some(1), false)),
-        ("FSTA", of_mailbox(Mail::Fsta, Some(1), true)),
-    ]
+/// The row that a call counts under: its name. The mailbox alone has rows for refused commands;
+/// there `other` is a code of no command.
+pub fn row(call: &Call, said: Said) -> String {
+    match (call, said.refusal()) {
+        (Call::Mailbox(_), Some(_)) => format!("{} refused", call.name()),
+        _ => call.name().to_string(),
+    }
 }
 
-/// Calls and their bytes in one line.
-pub fn listed(used: &[Used]) -> String {
-    let each: Vec<String> = used.iter().map(|(name, bytes)| format!("{name} {bytes}")).collect();
-    each.join(", ")
+/// The row of a case, which is measured only if it comes to what it should, on both sides.
+fn named(Case { comes_to, lent, call }: &Case) -> String {
+    let blocks: [&mut dyn KeyBlock; 2] = [&mut Archive::default(), &mut Proved];
+    let said = blocks.map(|block| block.answer(&mut lent.clone(), call));
+    for said in said {
+        let (came, cells) = (calls::came(call, said), lent.drive.cells.len());
+        assert_eq!(came, *comes_to, "the call that is measured, on {cells} cells, is another");
+    }
+    row(call, said[0])
 }
 
-/// The stack of a direct command, which is carried out.
-fn of_direct(command: Command) -> usize {
-    carried_out(None, |Drive { image, cells, marks }, context| {
+fn of(Case { lent, call, .. }: &Case) -> Used {
+    Used { c: as_c_calls(lent, call).2, safe_rust: through_wrapper(lent, call) }
+}
+
+/// A call as C makes it: what it said, what it left, and its stack.
+pub fn as_c_calls(before: &Lent, call: &Call) -> (Said, Lent, usize) {
+    let mut came_to = None;
+    let bytes = larger(|paint| {
+        let (mut after, mut block) = (before.clone(), Archive { paint, ..Archive::default() });
+        let said = block.answer(&mut after, call);
+        came_to = Some((said, after));
+        block.stack.len()
+    });
+    let (said, after) = came_to.expect("the call was made");
+    (said, after, bytes)
+}
+
+/// The stack of the safe Rust function. Each has a closure of its own, so that none is measured
+/// in a frame that another one needs; what it gives is kept, so that no part is left out.
+fn through_wrapper(lent: &Lent, call: &Call) -> usize {
+    match call {
+        Call::Partition(number) => measured(lent, |Lent { drive, .. }, _| {
+            matches!(partition(&drive.image, *number), Fields::Partition { .. })
+        }),
+        Call::States => measured(lent, |Lent { drive: Drive { image, cells, marks }, .. }, _| {
+            matches!(states(image, cells, marks), States::Listed(_))
+        }),
+        Call::Why => measured(lent, |Lent { drive: Drive { image, cells, marks }, .. }, _| {
+            !matches!(why(image, cells, marks), Reason::Refused(_))
+        }),
+        Call::Place(number) => {
+            measured(lent, |_, context| context.place(*number as usize).is_some())
+        }
+        Call::WriteMap(text) => {
+            measured(lent, |Lent { output, .. }, _| write_map(text, output).is_ok())
+        }
+        Call::Direct(command) => of_direct(lent, proved::given(*command)),
+        Call::Erase(erase) => of_erasure(lent, *erase),
+        Call::Mailbox(request) => of_mailbox(lent, request),
+        Call::Restart => measured(lent, |_, context| {
+            restart(context);
+            true
+        }),
+    }
+}
+
+fn of_direct(lent: &Lent, command: Command) -> usize {
+    measured(lent, |Lent { drive: Drive { image, cells, marks }, .. }, context| {
         !matches!(direct(image, cells, marks, context, command), Answer::Refused(_))
     })
 }
 
-/// The stack of a mailbox command for tag 1 and partition 0, with this key held.
-fn of_mailbox(command: Mail, held: Option<u64>, expected: bool) -> usize {
-    let Request { code, bytes } = Request::of(command, &Values { tag: 1, ..Values::default() });
-    measured(held, expected, |Lent { drive, response, block, .. }, context| {
+fn of_erasure(lent: &Lent, Erase { partition, cut }: Erase) -> usize {
+    match cut {
+        None => measured(lent, |Lent { drive: Drive { image, cells, marks }, .. }, context| {
+            let erasure = erase(image, cells, marks, context, partition);
+            matches!(erasure, Erasure::Ended { .. })
+        }),
+        Some(Cut { k, mask }) => measured(lent, |Lent { drive, .. }, context| {
+            let Drive { image, cells, marks } = drive;
+            let erasure = erase_cut(image, cells, marks, context, partition, k, mask);
+            matches!(erasure, Erasure::Cut { .. })
+        }),
+    }
+}
+
+fn of_mailbox(lent: &Lent, Request { code, bytes }: &Request) -> usize {
+    measured(lent, |Lent { drive, response, block, .. }, context| {
         let Drive { image, cells, marks } = drive;
-        let reply = mailbox(image, cells, marks, context, code, &bytes, response, block);
+        let reply = mailbox(image, cells, marks, context, *code, bytes, response, block);
         matches!(reply, Reply::Accepted { .. })
     })
 }
 
-/// The stack of a call that is lent a drive alone and is carried out.
-fn carried_out(held: Option<u64>, call: impl Fn(&mut Drive, &mut Context) -> bool) -> usize {
-    measured(held, true, |lent, context| call(&mut lent.drive, context))
-}
-
-/// The stack of a call that is carried out or refused as expected, on the small
-/// drive with this tag held in place 9, or with an empty cache.
-fn measured(
-    held: Option<u64>,
-    expected: bool,
-    call: impl Fn(&mut Lent, &mut Context) -> bool,
-) -> usize {
-    let new = || {
-        let mut lent = small::marked(0, 0);
-        lent.cache.places[9] = held;
-        let context = context::of(&lent);
-        // What the call said is kept, so that no part of it is left out.
-        (lent, context, !expected)
-    };
-    let (mut lent, mut context, _) = new();
-    assert_eq!(call(&mut lent, &mut context), expected, "the call that is measured is another");
+/// The stack of a call that finds what is lent, and its cache as a context.
+fn measured(lent: &Lent, call: impl Fn(&mut Lent, &mut Context) -> bool) -> usize {
+    let new = || (lent.clone(), context::of(lent), false);
     depth(new, |(lent, context, carried_out)| *carried_out = call(lent, context))
 }

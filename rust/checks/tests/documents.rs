@@ -8,12 +8,13 @@ use std::fs;
 use std::path::{Path, PathBuf};
 
 /// The documents that a reader is sent to first.
-const DOCUMENTS: [&str; 6] = [
+const DOCUMENTS: [&str; 7] = [
     "README.md",
     "docs/ARCHITECTURE.md",
     "docs/CHANGES.md",
     "docs/DECISIONS.md",
     "docs/GLOSSARY.md",
+    "docs/STACK.md",
     "drives/README.md",
 ];
 

@@ -1,22 +1,114 @@
-//! The stack that each call of the key block uses, against the most that it may;
-//! and the measure itself, on arrays of known lengths.
+//! The stack that each call of the key block uses, against the table of docs/STACK.md; that no
+//! generated call goes deeper than those in the table; and the measure itself, on arrays of known
+//! lengths.
 
+use checks::calls::{self, Scene};
 use checks::painted::depth;
+use checks::stack::table::{self, Row, HEAD};
+use checks::stack::{self, Used};
+use checks::tally::Tally;
 use std::io::Write;
 use std::ptr;
 
-/// The most that any call may use.
-const MOST: usize = 1024;
+/// No call through its safe Rust function may use so much, whatever its compiler makes of it.
+const KIB: usize = 1024;
+
+const DRIVES: usize = 1_000;
+/// Every outcome of every call has to be met so often.
+const LEAST: usize = 3;
+
+/// The row of this name.
+fn find<'a>(kept: &'a [Row], name: &str) -> Option<&'a Row> {
+    kept.iter().find(|row| row.name == name)
+}
+
+/// What is wrong with a table, or with the stack that was measured.
+fn faults(kept: &[Row], measured: &[(String, Used)]) -> Vec<String> {
+    let mut found = vec![];
+    for (name, Used { c, safe_rust }) in measured {
+        match find(kept, name) {
+            None => found.push(format!("{name}: the table has no row for it")),
+            Some(Row { now, .. }) if *c > now.c => {
+                found.push(format!("{name}: C takes {c} bytes, in the table {}", now.c));
+            }
+            Some(_) => {}
+        }
+        if *safe_rust >= KIB {
+            found.push(format!("{name}: safe Rust takes {safe_rust} bytes, not less than {KIB}"));
+        }
+    }
+    for Row { name, before, now } in kept {
+        if !measured.iter().any(|(call, _)| call == name) {
+            found.push(format!("{name}: no call is measured for this row of the table"));
+        }
+        if now.c > before.c {
+            let [now, before] = [now.c, before.c];
+            found.push(format!("{name}: in the table C takes {now} bytes, before {before}"));
+        }
+    }
+    found
+}
 
 #[test]
 #[cfg_attr(debug_assertions, ignore = "the stack is measured in an optimised build")]
-fn every_call_uses_less_than_1_kib() {
-    let used = checks::stack::of_every_call();
-    let line = checks::stack::listed(&used);
+fn no_call_takes_more_than_the_table_says() {
+    let (kept, measured) = (table::kept(), stack::of_every_row());
+    let mut lines = vec![format!("stack in bytes\n{HEAD}")];
+    for (name, now) in &measured {
+        let before = find(&kept, name).map_or(*now, |row| row.before);
+        lines.push(Row { name: name.clone(), before, now: *now }.to_string());
+    }
     // Written past the test harness, which would keep a print to itself.
-    writeln!(std::io::stdout(), "stack in bytes: {line}").expect("it can be printed");
-    for (name, bytes) in used {
-        assert!(bytes < MOST, "{name} uses {bytes} bytes of stack");
+    writeln!(std::io::stdout(), "{}", lines.join("\n")).expect("it can be printed");
+    assert_eq!(faults(&kept, &measured), [""; 0]);
+}
+
+#[test]
+fn no_generated_call_goes_deeper_than_its_row_says() {
+    let kept = table::kept();
+    let total = Tally::over(DRIVES, |tally, number| {
+        let mut scene = Scene::on(number, |_, _| ());
+        for _ in 0..scene.calls {
+            let (call, before) = scene.next_call();
+            let (said, after, bytes) = stack::as_c_calls(&before, &call);
+            let name = stack::row(&call, said);
+            let most = find(&kept, &name).unwrap_or_else(|| panic!("no row {name}")).now.c;
+            assert!(bytes <= most, "{name}: C takes {bytes} bytes, in the table {most}: {call}");
+            tally.add([calls::came(&call, said)]);
+            scene.go_on(after);
+        }
+    });
+    total.check((80_000, "calls, their stacks measured"), calls::outcomes(), LEAST);
+}
+
+/// The fault of a table with one row, of which C's bytes before and now are given, beside a call
+/// of that row with these bytes; or of an empty table, or of no call.
+fn fault(row: Option<[usize; 2]>, measured: Option<[usize; 2]>) -> String {
+    let used = |[c, safe_rust]: [usize; 2]| Used { c, safe_rust };
+    let kept: Vec<Row> = row
+        .into_iter()
+        .map(|[before, now]| {
+            let name = "KLOD".to_string();
+            Row { name, before: used([before, 0]), now: used([now, 0]) }
+        })
+        .collect();
+    let measured = measured.into_iter().map(|bytes| ("KLOD".to_string(), used(bytes)));
+    faults(&kept, &measured.collect::<Vec<_>>()).join(", ")
+}
+
+#[test]
+fn every_fault_is_found() {
+    assert_eq!(fault(Some([300, 200]), Some([200, 1023])), "");
+    assert_eq!(fault(Some([200, 200]), Some([8, 8])), "");
+    let rows = [
+        (Some([300, 200]), Some([201, 9]), "C takes 201 bytes, in the table 200"),
+        (Some([300, 200]), Some([9, 1024]), "safe Rust takes 1024 bytes, not less than 1024"),
+        (Some([200, 201]), Some([9, 9]), "in the table C takes 201 bytes, before 200"),
+        (Some([300, 200]), None, "no call is measured for this row of the table"),
+        (None, Some([9, 9]), "the table has no row for it"),
+    ];
+    for (row, measured, expected) in rows {
+        assert_eq!(fault(row, measured), format!("KLOD: {expected}"));
     }
 }
 

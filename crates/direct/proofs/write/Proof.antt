@@ -4,17 +4,17 @@ use mathlib.Core.Bool.{false}
 use Rattle.direct.specs.declared.Command.the-variants.{Write}
 use Rattle.direct.specs.declared.Found.the-variants.{Word}
 use Rattle.direct.specs.Direct.{forbidden, clears, changesSlot, cellsAfter, foundOf}
-use Rattle.direct.specs.Laws.{write-forbidden, write-clears, write-keeps, find-refused, named, word-at, word-carried}
+use Rattle.direct.specs.Laws.{write-forbidden, write-clears, write-keeps, found-is, find-refused, named, word-at, word-carried}
 use borrow.Author.Needs.{needs}
 use Rattle.direct.proofs.write.Statement.{statement}
 use Rattle.direct.proofs.write.Tie as tie
 
 -- the word that was found
 at-word : (c : tie.After-partition)
-    → let a = c .before .before .before .before .before .before .before .args in
+    → let a = c .before .before .before .before .before .before .before .before .args in
     let w = c .partition .given .0 in
     Word (w .0) (w .1 .0) (w .1 .1 .0) ≡ foundOf (a .image .now) (a .cells .now) (a .marks .now) (a .cell)
-at-word c = sym (c .partition .given .1) ∙ c .before .before .find .ensures
+at-word c = let looked = c .before .before in found-is _ _ _ _ (looked .before .check-drive .ensures) (looked .find .ensures) (c .partition .given .1)
 
 -- past 8, and past 9
 abbrev found-before : tie.Else1 → tie.After-partition
@@ -22,7 +22,7 @@ found-before c = c .before .before .before .before .before .before .before .befo
 
 may : (c : tie.Else1)
     → let found = found-before c in
-    let a = found .before .before .before .before .before .before .before .args in
+    let a = found .before .before .before .before .before .before .before .before .args in
     let w = found .partition .given .0 in
     forbidden (Write (a .cell) (a .value)) (a .image .now) (a .cells .now) (w .0) (w .1 .0) (w .1 .1 .0) ≡ false
 may c =
@@ -31,9 +31,12 @@ may c =
 
 keeps : (c : tie.Else2)
     → let found = found-before (c .before .before .before) in
-    let a = found .before .before .before .before .before .before .before .args in
+    let a = found .before .before .before .before .before .before .before .before .args in
     clears (Write (a .cell) (a .value)) (a .cells .now) (found .partition .given .0 .1 .1 .0) ≡ false
 keeps c = write-keeps _ _ _ _ (c .before .word-of .ensures) (c .if2 .left)
+
+check-drive-requires : tie.Need-check-drive-requires
+check-drive-requires c κs = search needs
 
 find-requires : tie.Need-find-requires
 find-requires c κs = search needs
@@ -109,7 +112,9 @@ same-length-4 : tie.Need-same-length-4
 same-length-4 c = search needs
 
 returns-4 : tie.Need-returns-4
-returns-4 c = find-refused _ _ _ _ (sym (c .before .number .given .1) ∙ c .before .before .before .find .ensures)
+returns-4 c =
+    let looked = c .before .before .before in
+    find-refused _ _ _ _ (found-is _ _ _ _ (looked .before .check-drive .ensures) (looked .find .ensures) (c .before .number .given .1))
 
 same-length-5 : tie.Need-same-length-5
 same-length-5 c = search needs
@@ -129,6 +134,7 @@ pub write-spec : {M : Type 1} → statement M
 write-spec =
     tie.close
     (tie.spec
+    check-drive-requires
     find-requires
     enum-known-number
     enum-known-partition

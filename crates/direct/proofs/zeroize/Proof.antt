@@ -2,17 +2,20 @@
 use mathlib.Core.Path.{_≡_, refl, sym, _∙_}
 use Rattle.direct.specs.declared.Found.the-variants.{Word}
 use Rattle.direct.specs.Direct.{clears, changesSlot, cellsAfter, foundOf}
-use Rattle.direct.specs.Laws.{zeroize-forbidden, find-refused, named, word-at, word-carried}
+use Rattle.direct.specs.Laws.{zeroize-forbidden, found-is, find-refused, named, word-at, word-carried}
 use borrow.Author.Needs.{needs}
 use Rattle.direct.proofs.zeroize.Statement.{statement}
 use Rattle.direct.proofs.zeroize.Tie as tie
 
 -- the word that was found
 at-word : (c : tie.After-partition)
-    → let a = c .before .before .before .before .before .before .before .args in
+    → let a = c .before .before .before .before .before .before .before .before .args in
     let w = c .partition .given .0 in
     Word (w .0) (w .1 .0) (w .1 .1 .0) ≡ foundOf (a .image .now) (a .cells .now) (a .marks .now) (a .cell)
-at-word c = sym (c .partition .given .1) ∙ c .before .before .find .ensures
+at-word c = let looked = c .before .before in found-is _ _ _ _ (looked .before .check-drive .ensures) (looked .find .ensures) (c .partition .given .1)
+
+check-drive-requires : tie.Need-check-drive-requires
+check-drive-requires c κs = search needs
 
 find-requires : tie.Need-find-requires
 find-requires c κs = search needs
@@ -78,7 +81,9 @@ same-length-3 : tie.Need-same-length-3
 same-length-3 c = search needs
 
 returns-3 : tie.Need-returns-3
-returns-3 c = find-refused _ _ _ _ (sym (c .before .number .given .1) ∙ c .before .before .before .find .ensures)
+returns-3 c =
+    let looked = c .before .before .before in
+    find-refused _ _ _ _ (found-is _ _ _ _ (looked .before .check-drive .ensures) (looked .find .ensures) (c .before .number .given .1))
 
 same-length-4 : tie.Need-same-length-4
 same-length-4 c = search needs
@@ -99,6 +104,7 @@ pub zeroize-spec : {M : Type 1} → statement M
 zeroize-spec =
     tie.close
     (tie.spec
+    check-drive-requires
     find-requires
     enum-known-number
     enum-known-partition

@@ -7,7 +7,7 @@ use Rattle.partition.specs.declared.State.{State}
 use Rattle.partition.specs.declared.State.the-variants.{Erased, Torn, Blank, Programmed}
 use Rattle.map.specs.Map.{slot}
 use Rattle.drive.specs.Drive.{slotIn, slotAt}
-use Rattle.drive.specs.Laws.{no-slot, slot-by}
+use Rattle.drive.specs.Laws.{no-slot, survey-is, slot-by}
 use Rattle.drive.proofs.slot_at.Statement.{statement}
 use Rattle.drive.proofs.slot_at.Tie as tie
 
@@ -22,8 +22,14 @@ returns c =
     let x = c .before .before in
     sym (no-slot _ _ _ _ (x .read-entry .ensures) (sym (c .before .is-slot .ensures) ∙ not-true _ (c .if1 .taken)))
 
-survey-at-requires : tie.Need-survey-at-requires
-survey-at-requires c κs = search needs
+terms-of-requires : tie.Need-terms-of-requires
+terms-of-requires c κs = search needs
+
+part-of-requires : tie.Need-part-of-requires
+part-of-requires c κs = search needs
+
+survey-cells-requires : tie.Need-survey-cells-requires
+survey-cells-requires c κs = search needs
 
 enum-told : tie.Need-enum-told
 enum-told c = search needs
@@ -42,8 +48,14 @@ a-slot : (c : tie.Else1) → slot (c .before .before .read-entry .result) ≡ tr
 a-slot c = sym (c .before .is-slot .ensures) ∙ not-false _ (c .if1 .left)
 
 -- the answer for the state that the survey found
-answer : (c : tie.After-survey-at) (state : State) → c .survey-at .result .state ≡ state → let a = c .before .before .before .before .before .before .args in slotIn state (a .i) ≡ slotAt (a .image .now) (a .cells .now) (a .i)
-answer c state e = sym (slot-by _ _ _ _ _ _ (c .before .before .before .read-entry .ensures) (a-slot (c .before)) (c .survey-at .ensures) e)
+answer : (c : tie.After-survey-cells) (state : State) → c .survey-cells .result .state ≡ state
+    → let a = c .before .before .before .before .before .before .before .before .args in
+    slotIn state (a .i) ≡ slotAt (a .image .now) (a .cells .now) (a .i)
+answer c state e =
+    let terms = c .before .before in
+    let slot = terms .before in
+    let survey = survey-is _ _ _ _ _ (terms .terms-of .ensures) (c .before .part-of .ensures) _ (c .survey-cells .ensures) in
+    sym (slot-by _ _ _ _ _ _ (slot .before .before .read-entry .ensures) (a-slot slot) survey e)
 
 returns-2 : tie.Need-returns-2
 returns-2 c = answer (c .before .before) Erased (c .enum-told .given .1)
@@ -64,7 +76,9 @@ slot-at-spec =
     read-entry-requires
     is-slot-requires
     returns
-    survey-at-requires
+    terms-of-requires
+    part-of-requires
+    survey-cells-requires
     enum-told
     enum-told-2
     enum-told-3

@@ -13,26 +13,23 @@ use borrow.Author.Needs.{needs}
 use Rattle.mailbox.proofs.load_effect.Statement.{statement}
 use Rattle.mailbox.proofs.load_effect.Tie as tie
 
-active-in-requires : tie.Need-active-in-requires
-active-in-requires c κs = search needs
-
-is-available-requires : tie.Need-is-available-requires
-is-available-requires c κs = search needs
+is-hek-available-requires : tie.Need-is-hek-available-requires
+is-hek-available-requires c κs = search needs
 
 refuse-requires : tie.Need-refuse-requires
 refuse-requires c κs = search needs
 
 -- the tests, at what was read
-asked : (c : tie.After-is-available)
-    → let a = c .before .before .before .before .before .args in
-    not (available (activeSlot (a .image .now) (a .cells .now))) ≡ not (c .is-available .result)
-asked c = ap not (sym (c .is-available .ensures ∙ ap available (c .before .active-in .ensures)))
+asked : (c : tie.After-is-hek-available)
+    → let a = c .before .before .before .before .args in
+    not (available (activeSlot (a .image .now) (a .cells .now))) ≡ not (c .is-hek-available .result)
+asked c = ap not (sym (c .is-hek-available .ensures))
 
 found : (c : tie.After-has-place)
-    → let a = c .before .before .before .before .before .before .before .before .args in
+    → let a = c .before .before .before .before .before .before .before .args in
     hasPlace (cacheOf (a .context .now)) (Tag (tagAt (requestFields Klod) (a .request .now))) ≡ c .has-place .result
 found c =
-    let a = c .before .before .before .before .before .before .before .before .args in
+    let a = c .before .before .before .before .before .before .before .args in
     sym (c .has-place .ensures ∙ ap (λ (t : ℕ). hasPlace (cacheOf (a .context .now)) (Tag t)) (c .before .tag-of .ensures Klod refl))
 
 returns : tie.Need-returns
@@ -90,8 +87,7 @@ pub load-effect-spec : {M : Type 1} → statement M
 load-effect-spec =
     tie.close
     (tie.spec
-    active-in-requires
-    is-available-requires
+    is-hek-available-requires
     refuse-requires
     returns
     tag-of-requires

@@ -32,9 +32,6 @@ run-fers-requires c κs = search needs
 enum-told-5 : tie.Need-enum-told-5
 enum-told-5 c = search needs
 
-active-in-requires : tie.Need-active-in-requires
-active-in-requires c κs = search needs
-
 status-effect-requires : tie.Need-status-effect-requires
 status-effect-requires c κs = search needs
 
@@ -70,7 +67,7 @@ same-length-3 : tie.Need-same-length-3
 same-length-3 c = search needs
 
 returns-5 : tie.Need-returns-5
-returns-5 c = rw (c .before .before .before .enum-told5 .given .1, c .status-effect .ensures, c .before .active-in .ensures)
+returns-5 c = rw (c .before .before .enum-told5 .given .1, c .status-effect .ensures)
 
 returns-6 : tie.Need-returns-6
 returns-6 c = rw (c .before .enum-told6 .given .1, c .refuse .ensures)
@@ -88,7 +85,6 @@ own-effect-spec =
     enum-told-4
     run-fers-requires
     enum-told-5
-    active-in-requires
     status-effect-requires
     enum-told-6
     refuse-requires

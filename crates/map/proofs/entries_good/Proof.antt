@@ -8,7 +8,7 @@ use borrow.Author.Needs.{needs}
 use Rattle.laws.specs.Below.{allBelow, all-step, all-fails}
 use Rattle.map.specs.declared.Header.{Header}
 use Rattle.map.specs.Map.{entryPlace, entryAt, endOf, endBefore, placeGood}
-use Rattle.map.specs.Laws.{end-next, place-is}
+use Rattle.map.specs.Laws.{end-next, entry-own, spare-own, place-is}
 use Rattle.map.proofs.entries_good.Statement.{statement}
 use Rattle.map.proofs.entries_good.Tie as tie
 
@@ -30,20 +30,36 @@ loop-holds c = (search needs, omega arith, refl, refl)
 
 -- `at` is the place of entry i
 here : (c : tie.At-loop Inv-loop μ-loop) → c .loop .at ≡ entryPlace (c .before .before .before .before .args .image .now) (c .loop .i)
-here c = c .loop .inv .1 ∙ ap (λ (h : Header). h .offset + 8 * c .loop .i) (c .before .before .before .before .pre)
+here c = c .loop .inv .1 ∙ ap (λ (h : Header). h .offset + 8 * c .loop .i) (c .before .before .before .before .pre .0)
+
+-- it is read there, from its own bytes
+read : (c : tie.After-entry-at Inv-loop μ-loop) → let top = c .before .before .before in
+    c .entry-at .result ≡ entryAt (top .before .before .before .before .args .image .now) (top .loop .at)
+read c = c .entry-at .ensures ∙ entry-own _ _
 
 -- so what entry_good answers is the rule of entry i
-judged : (c : tie.After-entry-good Inv-loop μ-loop) → c .entry-good .result ≡ placeGood (c .before .before .before .before .before .before .before .before .args .image .now) (c .before .before .before .before .loop .i)
+judged : (c : tie.After-entry-good Inv-loop μ-loop) → let top = c .before .before .before .before .before in
+    c .entry-good .result ≡ placeGood (top .before .before .before .before .args .image .now) (top .loop .i)
 judged c =
     let x = c .before .before in
-    let top = x .before .before in
-    place-is _ _ _ _ _ _ _ _ (top .loop .inv .2) (ap (λ (h : Header). h .cells) (top .before .before .before .before .pre)) (here top) (x .entry-at .ensures) (c .before .u16-at .ensures) (c .entry-good .ensures)
+    let top = x .before .before .before in
+    place-is _ _ _ _ _ _ _ _ (top .loop .inv .2) (ap (λ (h : Header). h .cells) (top .before .before .before .before .pre .0)) (here top)
+    (read x) (c .before .u16-at .ensures ∙ spare-own _ _) (c .entry-good .ensures)
+
+add-entry : tie.Need-add-entry Inv-loop μ-loop
+add-entry c = search needs
+
+sub-entry : tie.Need-sub-entry Inv-loop μ-loop
+sub-entry c = search needs
+
+part-entry-start : tie.Need-part-entry-start Inv-loop μ-loop
+part-entry-start c = search needs
+
+part-entry-end : tie.Need-part-entry-end Inv-loop μ-loop
+part-entry-end c = let top = c .before in omega (arith, c .loop-test .taken, top .loop .inv .1, top .before .before .before .before .pre .1)
 
 entry-at-requires : tie.Need-entry-at-requires Inv-loop μ-loop
 entry-at-requires c κs = search needs
-
-add-u16-at : tie.Need-add-u16-at Inv-loop μ-loop
-add-u16-at c = search needs
 
 u16-at-requires : tie.Need-u16-at-requires Inv-loop μ-loop
 u16-at-requires c κs = search needs
@@ -52,7 +68,7 @@ entry-good-requires : tie.Need-entry-good-requires Inv-loop μ-loop
 entry-good-requires c κs = search needs
 
 returns : tie.Need-returns Inv-loop μ-loop
-returns c = sym (all-fails _ _ _ (c .before .before .before .before .loop-test .taken) (sym (judged (c .before)) ∙ not-true _ (c .if1 .taken)))
+returns c = sym (all-fails _ _ _ (c .before .before .before .before .before .loop-test .taken) (sym (judged (c .before)) ∙ not-true _ (c .if1 .taken)))
 
 end-of-requires : tie.Need-end-of-requires Inv-loop μ-loop
 end-of-requires c κs = search needs
@@ -70,8 +86,12 @@ loop-again : tie.Need-loop-again Inv-loop μ-loop
 loop-again c =
     let answered = c .before .before in
     let x = answered .before .before in
-    let top = x .before .before in
-    (omega arith, omega (arith, top .loop .inv .1), c .end-of .ensures ∙ ap endOf (x .entry-at .ensures ∙ ap (entryAt _) (here top)) ∙ sym (end-next _ _), all-step _ _ (top .loop .inv .3) (sym (judged answered) ∙ not-false _ (c .before .if1 .left)))
+    let top = x .before .before .before in (
+      omega arith,
+      omega (arith, top .loop .inv .1),
+      c .end-of .ensures ∙ ap endOf (read x ∙ ap (entryAt _) (here top)) ∙ sym (end-next _ _),
+      all-step _ _ (top .loop .inv .3) (sym (judged answered) ∙ not-false _ (c .before .if1 .left)),
+    )
 
 returns-2 : tie.Need-returns-2 Inv-loop μ-loop
 returns-2 c = let e : c .before .loop .i ≡ c .before .before .before .before .before .args .h .partitions = omega arith in rw (← e) (sym (c .before .loop .inv .3))
@@ -85,8 +105,11 @@ entries-good-spec =
     cast-partitions
     cast-at
     loop-holds
+    add-entry
+    sub-entry
+    part-entry-start
+    part-entry-end
     entry-at-requires
-    add-u16-at
     u16-at-requires
     entry-good-requires
     returns

@@ -32,7 +32,10 @@ returns-2 c =
     sym (bad-filler _ _ (b .before .before .before .before .read-header .ensures) (sym (b .filler-good .ensures) ∙ not-true _ (c .if2 .taken)))
 
 entries-good-requires : tie.Need-entries-good-requires
-entries-good-requires c κs = search needs
+entries-good-requires c κs =
+    let past = c .before .before .before in
+    let header = past .before in
+    (header .before .read-header .ensures, header-rules _ _ (sym (header .header-good .ensures) ∙ not-false _ (past .if1 .left)) .long)
 
 returns-3 : tie.Need-returns-3
 returns-3 c =

@@ -1,0 +1,47 @@
+//! The table of docs/STACK.md: what each call may take, and what it took before.
+
+use super::Used;
+use crate::runner::in_repository;
+use std::fmt;
+use std::fs;
+
+/// Its head.
+pub const HEAD: &str = "| call | C before | C now | safe Rust before | safe Rust now |";
+
+/// A row, by the name of its calls.
+#[derive(Clone, Debug)]
+pub struct Row {
+    pub name: String,
+    pub before: Used,
+    pub now: Used,
+}
+
+/// The table as it is kept.
+pub fn kept() -> Vec<Row> {
+    let text = fs::read_to_string(in_repository("docs/STACK.md")).expect("docs/STACK.md is there");
+    let (_, under_head) = text.split_once(HEAD).expect("docs/STACK.md has the table");
+    under_head.lines().skip(2).take_while(|line| line.starts_with('|')).map(read).collect()
+}
+
+fn read(line: &str) -> Row {
+    let cells: Vec<&str> = line.trim_matches('|').split('|').map(str::trim).collect();
+    let number = |cell: &&str| cell.parse().ok();
+    let bytes: Vec<usize> = cells.iter().skip(1).filter_map(number).collect();
+    match bytes[..] {
+        [c_before, c, safe_rust_before, safe_rust] if cells.len() == 5 => Row {
+            name: cells[0].to_string(),
+            before: Used { c: c_before, safe_rust: safe_rust_before },
+            now: Used { c, safe_rust },
+        },
+        _ => panic!("docs/STACK.md: no row of the table: {line}"),
+    }
+}
+
+/// The row as the table has it.
+impl fmt::Display for Row {
+    fn fmt(&self, f: &mut fmt::Formatter) -> fmt::Result {
+        let Row { name, before, now } = self;
+        write!(f, "| {name} | {} | {} ", before.c, now.c)?;
+        write!(f, "| {} | {} |", before.safe_rust, now.safe_rust)
+    }
+}
