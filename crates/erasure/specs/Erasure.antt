@@ -6,7 +6,7 @@ use mathlib.Core.Bool.{Bool, true, false, cond, not}
 use mathlib.Core.List.{List, [], _∷_, _++_}
 use lib.Dec.{leb}
 use lib.ListN.{length, take, drop}
-use Rattle.laws.specs.Refusals.{firstOf}
+use Rattle.laws.specs.Refusals.{firstOf, numberOf}
 use Rattle.context.specs.State.{State, withContext, Outcome, outcome, refusing, onCells}
 use Rattle.map.specs.Map.{headerOf, entryOf, software, zeroizable}
 use Rattle.partition.specs.declared.Lowest.{Lowest}
@@ -15,6 +15,8 @@ use Rattle.partition.specs.Partition.{shortPairs, lowestShort}
 use Rattle.burns.specs.declared.End.{End}
 use Rattle.burns.specs.declared.End.the-variants.{Whole, Stopped, Cut as CutEnd}
 use Rattle.burns.specs.Run.{Tally, tallyOf, Ran, ran, run}
+use Rattle.drive.specs.declared.Check.{Check}
+use Rattle.drive.specs.declared.Check.the-variants.{Ready, Refused as NotReady}
 use Rattle.drive.specs.Drive.{Whole as WholeDrive, driveTests, cellsOf, slotInUse}
 use Rattle.cache.specs.Cache.{emptied}
 use Rattle.erasure.specs.declared.Answer.{Answer}
@@ -41,6 +43,11 @@ pub record Erasable (image cells marks : List ℕ) (i : ℕ) : Type 0 where
   pub marks-long : length marks ≡ length cells
   pub partition : i < headerOf image .partitions
   pub may : zeroizable (entryOf image i) ≡ true
+
+-- the lowest of them as a number, by the check of the drive, 0 where none applies
+abbrev pub refusalBy : Check → (image : List ℕ) (i : ℕ) (context : List ℕ) → ℕ
+refusalBy (NotReady number) image i context = number
+refusalBy (Ready header) image i context = numberOf (partitionTests image i context)
 
 -- ---- the run over a partition of a drive
 

@@ -21,13 +21,14 @@ use Rattle.burns.specs.declared.End.{End}
 use Rattle.burns.specs.declared.End.the-variants.{Whole}
 use Rattle.burns.specs.declared.Report.{Report}
 use Rattle.burns.specs.Run.{Tally, tallyOf, Ran, ranAs, run}
+use Rattle.drive.specs.declared.Check.{Check}
 use Rattle.drive.specs.declared.Check.the-variants.{Ready, Refused as NotReady}
 use Rattle.drive.specs.Drive.{Whole as WholeDrive, checkOf, cellsOf}
-use Rattle.drive.specs.Laws.{check-refused, check-passed, judged, part-is, shorts-most}
+use Rattle.drive.specs.Laws.{check-past, check-refused, check-passed, judged, part-is, shorts-most}
 use Rattle.cache.specs.Cache.{emptied}
 use Rattle.erasure.specs.declared.Answer.{Answer}
 use Rattle.erasure.specs.declared.Answer.the-variants.{Ended, Refused}
-use Rattle.erasure.specs.Erasure.{partitionTests, Erasable, inWhole, runOn, firstShort, answerBy, ranOf, unburned, burning, eraseOf, isCut, afterCut}
+use Rattle.erasure.specs.Erasure.{partitionTests, eraseTests, refusalBy, Erasable, inWhole, runOn, firstShort, answerBy, ranOf, unburned, burning, eraseOf, isCut, afterCut}
 
 -- ---- which of the partition's tests gives the number, by the test's place; 0 where none does
 
@@ -115,31 +116,39 @@ pub run-left : (image : List ℕ) (i : ℕ) {r : Ran} {report : Report} {cells :
     → answer ≡ answerBy (report .end) image i (tallyOf cells (report .burns)) → outcome answer cells ≡ ranOf image i r
 run-left image i {cells = cells} e q = ap (λ (answer : Answer). outcome answer cells) q ∙ ap (ranOf image i) e
 
--- ---- an erasure, by where its judging ends
+-- ---- an erasure, by the number that its judging gives
 
-module _ (image marks : List ℕ) (i k mask : ℕ) (s : State) where
-  pub erase-drive : (n : ℕ) → NotReady n ≡ checkOf image (s .cells) marks → outcome (Refused n 0) s ≡ eraseOf image marks i k mask s
-  unfolding eraseOf
-  erase-drive n e = sym (check-refused (refusing unburned s) (partitionTests image i (s .context)) (burning image marks i k mask s) image (s .cells) marks n e)
+module _ (image marks : List ℕ) (i : ℕ) (s : State) {check : Check} (c : check ≡ checkOf image (s .cells) marks)
+    {n : ℕ} (q : n ≡ refusalBy check image i (s .context)) where
+  abbrev tests : List (Bool × ℕ)
+  tests = eraseTests image marks i s
 
-  module _ {header : Header} (e : Ready header ≡ checkOf image (s .cells) marks) where
-    past-drive : eraseOf image marks i k mask s ≡ firstOf (refusing unburned s) (partitionTests image i (s .context)) (burning image marks i k mask s)
+  -- it is the number of all tests
+  number : n ≡ numberOf tests
+  number = q ∙ by check c
+    where
+      by : (check : Check) → check ≡ checkOf image (s .cells) marks → refusalBy check image i (s .context) ≡ numberOf tests
+      by (NotReady m) c = sym (check-refused (λ n. n) (partitionTests image i (s .context)) 0 image (s .cells) marks m c)
+      by (Ready header) c = sym (check-passed (λ n. n) (partitionTests image i (s .context)) 0 image (s .cells) marks header c)
+
+  module _ (k mask : ℕ) where
+    abbrev runs : Outcome Answer State
+    runs = burning image marks i k mask s
+
+    pub erase-refused : (n ≡ 0 → ⊥) → outcome (Refused n 0) s ≡ eraseOf image marks i k mask s
     unfolding eraseOf
-    past-drive = check-passed (refusing unburned s) (partitionTests image i (s .context)) (burning image marks i k mask s) image (s .cells) marks header e
+    erase-refused o = sym (number-refuses (refusing unburned s) [] runs tests n number o)
 
-    pub erase-refused : (n : ℕ) → n ≡ numberOf (partitionTests image i (s .context)) → (n ≡ 0 → ⊥) → outcome (Refused n 0) s ≡ eraseOf image marks i k mask s
-    erase-refused n q o = sym (past-drive ∙ number-refuses (refusing unburned s) [] (burning image marks i k mask s) (partitionTests image i (s .context)) n q o)
+    pub erase-runs : n ≡ 0 → {answer : Answer} {cells : List ℕ} → outcome answer cells ≡ ranOf image i (runOn image (s .cells) marks i k mask)
+        → outcome answer (withCells cells s) ≡ eraseOf image marks i k mask s
+    unfolding eraseOf
+    erase-runs z e = ap (onCells s) e ∙ sym (number-passes (refusing unburned s) [] runs tests refl (sym z ∙ number) .is)
 
-    module _ (none : 0 ≡ numberOf (partitionTests image i (s .context))) where
-      pub erase-runs : {answer : Answer} {cells : List ℕ} → outcome answer cells ≡ ranOf image i (runOn image (s .cells) marks i k mask)
-          → outcome answer (withCells cells s) ≡ eraseOf image marks i k mask s
-      erase-runs q = ap (onCells s) q ∙ sym (past-drive ∙ number-passes (refusing unburned s) [] (burning image marks i k mask s) (partitionTests image i (s .context)) refl none .is)
-
-      pub erasable : Erasable image (s .cells) marks i
-      erasable =
-          let told = judged image (s .cells) marks header e in
-          let passed = number-passes (refusing unburned s) [] (burning image marks i k mask s) (partitionTests image i (s .context)) refl none in
-          record { whole = told .whole; marks-long = told .marks-long ∙ sym (told .whole .long); partition = leb-false _ _ (passed .none 0); may = not-false _ (passed .none 1) }
+  pub erasable : n ≡ 0 → Erasable image (s .cells) marks i
+  erasable z =
+      let passed = number-passes (λ (n : ℕ). n) [] 0 tests refl (sym z ∙ number) in
+      let told = judged image (s .cells) marks (headerOf image) (check-past image (s .cells) marks (passed .none 0, (passed .none 1, tt)) refl) in
+      record { whole = told .whole; marks-long = told .marks-long ∙ sym (told .whole .long); partition = leb-false _ _ (passed .none 2); may = not-false _ (passed .none 3) }
 
 -- ---- a cut erasure, with its context
 

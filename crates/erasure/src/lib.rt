@@ -1,7 +1,7 @@
 // The erasure of a partition of a drive, whole or cut by a power failure, and the restart. A call is
 // judged, the lowest refusal first; then the one run of `burns` is made over the partition's part of
 // the array, cut or not. `erase`, `erase_cut` and `restart` are the entry points: they answer for any
-// bytes and any lengths. `erase_judged` serves FERS. The definitions are in `specs/Erasure`, the laws
+// bytes and any lengths. `erase_judged` serves FERS too. The definitions are in `specs/Erasure`, the laws
 // in `specs/Laws`, what a run leaves of the whole array in `specs/Parts`, what holds of cuts in
 // `specs/Cuts`, what an ended erasure leaves in `specs/Ends`. It rests on `burns`, `drive`, `cache`,
 // `context` and what lies below them.
@@ -18,7 +18,7 @@ ghost use Rattle.burns.specs.Run.{tallyOf, ranAs};
 ghost use Rattle.drive.specs.Drive.{Whole};
 ghost use Rattle.cache.specs.Cache.{emptied};
 ghost use Rattle.context.specs.State.{state, outcome};
-ghost use Rattle.erasure.specs.Erasure.{partitionTests, Erasable, runOn, firstShort, answerBy, ranOf, isCut, uncutOf, eraseOf, erasureOf, cutErasureOf};
+ghost use Rattle.erasure.specs.Erasure.{partitionTests, Erasable, runOn, firstShort, answerBy, ranOf, refusalBy, isCut, uncutOf, erasureOf, cutErasureOf};
 
 // What an erasure answers: that it ended, its short pairs, the first cell of the lowest one (0xFFFFFFFF
 // if none) and the burns carried out; the partition is then erased only if no pair is short. Or that it
@@ -128,34 +128,14 @@ pub fn erase_judged(image: &[u8], cells: &mut [u32], marks: &[u32], i: u32) -> A
     run_judged(image, cells, marks, i, NEVER, 0)
 }
 
-// An erasure, cut at burn `k` if its order reaches it: judged, then carried out unless it is refused.
-fn attempt(
-    image: &[u8],
-    cells: &mut [u32],
-    marks: &[u32],
-    context: &mut Context,
-    i: u32,
-    k: u32,
-    mask: u64,
-) -> Answer
-    ensures { λ r. ⌜ outcome r (state (now (cells .exit)) (now (context .exit)))
-        ≡ eraseOf (now (image .entry)) (now (marks .entry)) i k mask (state (now (cells .entry)) (now (context .entry))) ⌝ }
+// The lowest of the refusals 1, 2, 7, 8 and 10 that applies to an erasure, by the check of its drive, 0
+// where none does.
+fn refusal_by(check: Check, image: &[u8], i: u32, context: &Context) -> u32
+    ensures { λ r. ⌜ r ≡ refusalBy check (now (image .entry)) i (now (context .entry)) ⌝ }
 {
-    match drive::check_drive(image, cells, marks) {
-        Check::Refused(number) => Answer::Refused {
-            number: number,
-            burns: 0,
-        },
-        Check::Ready(_) => {
-            let number = partition_refusal(image, i, context);
-            if number != 0 {
-                return Answer::Refused {
-                    number: number,
-                    burns: 0,
-                };
-            }
-            run_judged(image, cells, marks, i, k, mask)
-        }
+    match check {
+        Check::Refused(number) => number,
+        Check::Ready(_) => partition_refusal(image, i, context),
     }
 }
 
@@ -170,7 +150,14 @@ pub fn erase(
     ensures { λ r. ⌜ outcome r (state (now (cells .exit)) (now (context .exit)))
         ≡ erasureOf (now (image .entry)) (now (marks .entry)) i (state (now (cells .entry)) (now (context .entry))) ⌝ }
 {
-    attempt(image, cells, marks, context, i, NEVER, 0)
+    let number = refusal_by(drive::check_drive(image, cells, marks), image, i, context);
+    if number != 0 {
+        return Answer::Refused {
+            number: number,
+            burns: 0,
+        };
+    }
+    erase_judged(image, cells, marks, i)
 }
 
 // Whether an erasure was cut.
@@ -205,7 +192,14 @@ pub fn erase_cut(
     ensures { λ r. ⌜ outcome r (state (now (cells .exit)) (now (context .exit)))
         ≡ cutErasureOf (now (image .entry)) (now (marks .entry)) i k mask (state (now (cells .entry)) (now (context .entry))) ⌝ }
 {
-    let answer = attempt(image, cells, marks, context, i, k, mask);
+    let number = refusal_by(drive::check_drive(image, cells, marks), image, i, context);
+    if number != 0 {
+        return Answer::Refused {
+            number: number,
+            burns: 0,
+        };
+    }
+    let answer = run_judged(image, cells, marks, i, k, mask);
     if is_cut(answer) {
         cache::clear(context);
     }

@@ -5,8 +5,9 @@ use crate::runner::in_repository;
 use std::fmt;
 use std::fs;
 
-/// Its head.
+/// Its head, and that of the list of rows that grew.
 pub const HEAD: &str = "| call | C before | C now | safe Rust before | safe Rust now |";
+const GROWN: &str = "## Calls that grew, and why\n";
 
 /// A row, by the name of its calls.
 #[derive(Clone, Debug)]
@@ -14,16 +15,19 @@ pub struct Row {
     pub name: String,
     pub before: Used,
     pub now: Used,
+    /// Whether a reason is given why it grew.
+    pub reasoned: bool,
 }
 
 /// The table as it is kept.
 pub fn kept() -> Vec<Row> {
     let text = fs::read_to_string(in_repository("docs/STACK.md")).expect("docs/STACK.md is there");
-    let (_, under_head) = text.split_once(HEAD).expect("docs/STACK.md has the table");
-    under_head.lines().skip(2).take_while(|line| line.starts_with('|')).map(read).collect()
+    let under = |head| text.split_once(head).map(|(_, under)| under).expect("its head is there");
+    let lines = under(HEAD).lines().skip(2).take_while(|line| line.starts_with('|'));
+    lines.map(|line| read(line, under(GROWN))).collect()
 }
 
-fn read(line: &str) -> Row {
+fn read(line: &str, grown: &str) -> Row {
     let cells: Vec<&str> = line.trim_matches('|').split('|').map(str::trim).collect();
     let number = |cell: &&str| cell.parse().ok();
     let bytes: Vec<usize> = cells.iter().skip(1).filter_map(number).collect();
@@ -32,6 +36,7 @@ fn read(line: &str) -> Row {
             name: cells[0].to_string(),
             before: Used { c: c_before, safe_rust: safe_rust_before },
             now: Used { c, safe_rust },
+            reasoned: grown.contains(&format!("\n- {}: ", cells[0])),
         },
         _ => panic!("docs/STACK.md: no row of the table: {line}"),
     }
@@ -40,7 +45,7 @@ fn read(line: &str) -> Row {
 /// The row as the table has it.
 impl fmt::Display for Row {
     fn fmt(&self, f: &mut fmt::Formatter) -> fmt::Result {
-        let Row { name, before, now } = self;
+        let Row { name, before, now, .. } = self;
         write!(f, "| {name} | {} | {} ", before.c, now.c)?;
         write!(f, "| {} | {} |", before.safe_rust, now.safe_rust)
     }
