@@ -28,7 +28,8 @@ use Rattle.drive.specs.Laws.{check-past, check-refused, check-passed, judged, p
 use Rattle.cache.specs.Cache.{emptied}
 use Rattle.erasure.specs.declared.Answer.{Answer}
 use Rattle.erasure.specs.declared.Answer.the-variants.{Ended, Refused}
-use Rattle.erasure.specs.Erasure.{partitionTests, eraseTests, refusalBy, Erasable, inWhole, runOn, firstShort, answerBy, ranOf, unburned, burning, eraseOf, isCut, afterCut}
+use Rattle.erasure.specs.Erasure.{partitionTests, eraseTests, refusalBy, Erasable, inWhole, runOn, firstShort, answerBy, ranOf, unburned, burning}
+use Rattle.erasure.specs.Erasure.{eraseOf, isCut, afterCut}
 
 -- ---- which of the partition's tests gives the number, by the test's place; 0 where none does
 
@@ -148,7 +149,12 @@ module _ (image marks : List ℕ) (i : ℕ) (s : State) {check : Check} (c : che
   erasable z =
       let passed = number-passes (λ (n : ℕ). n) [] 0 tests refl (sym z ∙ number) in
       let told = judged image (s .cells) marks (headerOf image) (check-past image (s .cells) marks (passed .none 0, (passed .none 1, tt)) refl) in
-      record { whole = told .whole; marks-long = told .marks-long ∙ sym (told .whole .long); partition = leb-false _ _ (passed .none 2); may = not-false _ (passed .none 3) }
+      record {
+        whole = told .whole;
+        marks-long = told .marks-long ∙ sym (told .whole .long);
+        partition = leb-false _ _ (passed .none 2);
+        may = not-false _ (passed .none 3);
+      }
 
 -- ---- a cut erasure, with its context
 

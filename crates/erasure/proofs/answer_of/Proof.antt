@@ -6,12 +6,6 @@ use borrow.Author.Needs.{needs}
 use Rattle.erasure.proofs.answer_of.Statement.{statement}
 use Rattle.erasure.proofs.answer_of.Tie as tie
 
-read-header-requires : tie.Need-read-header-requires
-read-header-requires c κs = search needs
-
-read-entry-requires : tie.Need-read-entry-requires
-read-entry-requires c κs = search needs
-
 part-of-requires : tie.Need-part-of-requires
 part-of-requires c κs = search needs
 
@@ -21,6 +15,12 @@ cast-burns c = search needs
 enum-told : tie.Need-enum-told
 enum-told c = search needs
 
+read-header-requires : tie.Need-read-header-requires
+read-header-requires c κs = search needs
+
+read-entry-requires : tie.Need-read-entry-requires
+read-entry-requires c κs = search needs
+
 cast-shorts-of : tie.Need-cast-shorts-of
 cast-shorts-of c = search needs
 
@@ -29,15 +29,16 @@ shorts-of-requires c κs = search needs
 
 cast-t14 : tie.Need-cast-t14
 cast-t14 c =
-    let part = c .before .before .before .before .before .before in
-    let start = part .before .before .before .before .before in
+    let part = c .before .before .before .before .before .before .before .before in
+    let start = part .before .before .before in
     omega (arith, count-fits _ _ _ (start .pre .0) (start .pre .1) _ (part .part-of .ensures) (c .before .shorts-of .ensures))
 
 first-short-requires : tie.Need-first-short-requires
 first-short-requires c κs =
-    let part = c .before .before .before .before .before .before in
-    let start = part .before .before .before .before .before in
-    first-short-fits _ _ _ (start .pre .0) (start .pre .1) _ (part .part-of .ensures) (c .before .shorts-of .ensures) (part .before .read-entry .ensures)
+    let x = c .before .before .before in
+    let part = x .before .before .before .before .before in
+    let start = part .before .before .before in
+    first-short-fits _ _ _ (start .pre .0) (start .pre .1) _ (part .part-of .ensures) (c .before .shorts-of .ensures) (x .read-entry .ensures)
 
 enum-told-2 : tie.Need-enum-told-2
 enum-told-2 c = search needs
@@ -47,10 +48,10 @@ enum-told-3 c = search needs
 
 returns : tie.Need-returns
 returns c =
-    let shorts = c .before .before in
-    let told = shorts .before .before in
+    let x = c .before .before .before .before in
+    let told = x .before .before in
     let part = told .before .before .before in
-    let x = part .before in
+    let shorts = c .before .before in
     ended _ _ _ (told .enum-told .given .1)
     (ended-is _ _ _ _ (x .before .read-header .ensures) (x .read-entry .ensures) (part .part-of .ensures) (shorts .shorts-of .ensures) (c .first-short .ensures))
 
@@ -64,11 +65,11 @@ pub answer-of-spec : {M : Type 1} → statement M
 answer-of-spec =
     tie.close
     (tie.spec
-    read-header-requires
-    read-entry-requires
     part-of-requires
     cast-burns
     enum-told
+    read-header-requires
+    read-entry-requires
     cast-shorts-of
     shorts-of-requires
     cast-t14
