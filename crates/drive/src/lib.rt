@@ -169,7 +169,8 @@ pub fn active_in(image: &[u8], cells: &[u32]) -> ActiveSlot
     active
 }
 
-// Whether the HEK of a drive that was judged is available.
+// Whether the HEK of a drive that was judged is available. (KLOD and FSTA each ask for the active slot
+// in a function of their own, so that the slices which they hand on have the same places in one frame.)
 pub fn is_hek_available(image: &[u8], cells: &[u32]) -> bool
     requires { ⌜ Whole (now image) (now cells) ⌝ }
     ensures { λ r. ⌜ r ≡ available (activeSlot (now (image .entry)) (now (cells .entry))) ⌝ }
