@@ -130,7 +130,8 @@ pub fn erase_judged(image: &[u8], cells: &mut [u32], marks: &[u32], i: u32) -> A
 }
 
 // The lowest of the refusals 1, 2, 7, 8 and 10 that applies to an erasure, by the check of its drive, 0
-// where none does.
+// where none does. The callers check the drive and refuse: a function that did so for both would be one
+// more frame above the run.
 fn refusal_by(check: Check, image: &[u8], i: u32, context: &Context) -> u32
     ensures { λ r. ⌜ r ≡ refusalBy check (now (image .entry)) i (now (context .entry)) ⌝ }
 {

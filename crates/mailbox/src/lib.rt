@@ -1,9 +1,9 @@
-// The mailbox: a code and a request go in; out come a reply with the engine's order, a response and the
-// engine block, both written straight into the lent buffers, and the fuses and the context as the
-// command leaves them. A call is judged and its effect found, for FERS by its erasure; then it is
-// written out unless it is refused: a refusal changes nothing, but for the indicator that 15 leaves
-// burned. `call` answers for any bytes and any lengths. The definitions are in `specs/Mailbox`, the laws
-// in `specs/Laws` and `specs/Told`. It rests on `codec`, `engine`, `erasure` and what lies below them.
+// The mailbox: a code and a request go in; out come a reply with the engine's order, the engine block, a
+// response that is written straight into the lent buffer, and the fuses and the context as the command
+// leaves them. A call is judged and its effect found, for FERS by its erasure; then it is written out
+// unless it is refused: a refusal changes nothing, but for the indicator that 15 leaves burned. `call`
+// answers for any bytes and any lengths. The definitions are in `specs/Mailbox`, the laws in `specs/Laws`
+// and `specs/Told`. It rests on `codec`, `engine`, `erasure` and what lies below them.
 use cache::Sought;
 use codec::Command;
 use codec::Numbers;

@@ -42,8 +42,8 @@ pub fn every_state() -> Drive {
 /// Every slot is erased but the last, which is programmed: the active slot is
 /// found after all others.
 pub fn last_slot_active() -> Drive {
-    filled(|i, part| match i {
-        15 => program(i, part),
+    filled(|i, part| match i as u32 {
+        LAST => program(i, part),
         _ => part.fill(u32::MAX),
     })
 }
@@ -62,7 +62,7 @@ pub fn first_no_slot(kind: u8, flags: u8) -> Drive {
 pub fn last_slot_torn() -> Drive {
     filled(|i, part| {
         part.fill(u32::MAX);
-        if i == 15 {
+        if i as u32 == LAST {
             part[SHARE - TAIL] = 0;
         }
     })

@@ -1,5 +1,5 @@
 //! The proved key block, called through its safe Rust functions: the one place
-//! that makes their calls from a `Call`, and a `Said` from their answers.
+//! that makes a `Said` from their answers to a `Call`.
 
 use crate::context;
 use model::{

@@ -12,7 +12,7 @@ use crate::{calls, context};
 use cases::Case;
 use model::{Call, Cut, Drive, Erase, KeyBlock, Lent, Request, Said};
 use sciambrunola::{direct, erase, erase_cut, mailbox, partition, restart, states, why, write_map};
-use sciambrunola::{Answer, Command, Context, Erasure, Fields, Reason, Reply, States};
+use sciambrunola::{Command, Context};
 
 /// The bytes of stack that a call uses, or the most that some calls do.
 #[derive(Clone, Copy, Debug)]
@@ -76,50 +76,41 @@ pub fn as_c_calls(before: &Lent, call: &Call) -> (Said, Lent, usize) {
 }
 
 /// The stack of the safe Rust function. Each has a closure of its own, so that none is measured
-/// in a frame that another one needs; what it gives is kept, so that no part is left out.
+/// in a frame that another one needs; its whole answer is kept, so that no part is left out.
 fn through_wrapper(lent: &Lent, call: &Call) -> usize {
     match call {
-        Call::Partition(number) => measured(lent, |Lent { drive, .. }, _| {
-            matches!(partition(&drive.image, *number), Fields::Partition { .. })
-        }),
+        Call::Partition(number) => {
+            measured(lent, |Lent { drive, .. }, _| partition(&drive.image, *number))
+        }
         Call::States => measured(lent, |Lent { drive: Drive { image, cells, marks }, .. }, _| {
-            matches!(states(image, cells, marks), States::Listed(_))
+            states(image, cells, marks)
         }),
         Call::Why => measured(lent, |Lent { drive: Drive { image, cells, marks }, .. }, _| {
-            !matches!(why(image, cells, marks), Reason::Refused(_))
+            why(image, cells, marks)
         }),
-        Call::Place(number) => {
-            measured(lent, |_, context| context.place(*number as usize).is_some())
-        }
-        Call::WriteMap(text) => {
-            measured(lent, |Lent { output, .. }, _| write_map(text, output).is_ok())
-        }
+        Call::Place(number) => measured(lent, |_, context| context.place(*number as usize)),
+        Call::WriteMap(text) => measured(lent, |Lent { output, .. }, _| write_map(text, output)),
         Call::Direct(command) => of_direct(lent, proved::given(*command)),
         Call::Erase(erase) => of_erasure(lent, *erase),
         Call::Mailbox(request) => of_mailbox(lent, request),
-        Call::Restart => measured(lent, |_, context| {
-            restart(context);
-            true
-        }),
+        Call::Restart => measured(lent, |_, context| restart(context)),
     }
 }
 
 fn of_direct(lent: &Lent, command: Command) -> usize {
     measured(lent, |Lent { drive: Drive { image, cells, marks }, .. }, context| {
-        !matches!(direct(image, cells, marks, context, command), Answer::Refused(_))
+        direct(image, cells, marks, context, command)
     })
 }
 
 fn of_erasure(lent: &Lent, Erase { partition, cut }: Erase) -> usize {
     match cut {
         None => measured(lent, |Lent { drive: Drive { image, cells, marks }, .. }, context| {
-            let erasure = erase(image, cells, marks, context, partition);
-            matches!(erasure, Erasure::Ended { .. })
+            erase(image, cells, marks, context, partition)
         }),
         Some(Cut { k, mask }) => measured(lent, |Lent { drive, .. }, context| {
             let Drive { image, cells, marks } = drive;
-            let erasure = erase_cut(image, cells, marks, context, partition, k, mask);
-            matches!(erasure, Erasure::Cut { .. })
+            erase_cut(image, cells, marks, context, partition, k, mask)
         }),
     }
 }
@@ -127,13 +118,12 @@ fn of_erasure(lent: &Lent, Erase { partition, cut }: Erase) -> usize {
 fn of_mailbox(lent: &Lent, Request { code, bytes }: &Request) -> usize {
     measured(lent, |Lent { drive, response, block, .. }, context| {
         let Drive { image, cells, marks } = drive;
-        let reply = mailbox(image, cells, marks, context, *code, bytes, response, block);
-        matches!(reply, Reply::Accepted { .. })
+        mailbox(image, cells, marks, context, *code, bytes, response, block)
     })
 }
 
 /// The stack of a call that finds what is lent, and its cache as a context.
-fn measured(lent: &Lent, call: impl Fn(&mut Lent, &mut Context) -> bool) -> usize {
-    let new = || (lent.clone(), context::of(lent), false);
-    depth(new, |(lent, context, carried_out)| *carried_out = call(lent, context))
+fn measured<T>(lent: &Lent, call: impl Fn(&mut Lent, &mut Context) -> T) -> usize {
+    let new = || (lent.clone(), context::of(lent), None);
+    depth(new, |(lent, context, answer)| *answer = Some(call(lent, context)))
 }

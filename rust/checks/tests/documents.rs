@@ -60,7 +60,7 @@ const SOURCES: [&str; 9] =
 
 /// Where documents are, and what is not to be left in them.
 const PLACES: [&str; 3] = ["README.md", "docs", "drives/README.md"];
-const LEFT_OPEN: [&str; 4] = ["GATE", "GATE-TIME", "TIMES", "TODO"];
+const LEFT_OPEN: [&str; 6] = ["CHECK", "GATE", "GATE-TIME", "LINES", "TIMES", "TODO"];
 
 #[test]
 fn every_name_in_the_documents_exists() {

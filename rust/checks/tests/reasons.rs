@@ -8,11 +8,11 @@ use checks::calls::{self, requests};
 use checks::proved::Proved;
 use checks::random::Random;
 use checks::tally::Tally;
-use checks::{drives, maps, small};
+use checks::{drives, lent, maps, small};
 use model::Reason::{AllErased, Available, Blank, NoSlot, Torn};
 use model::{entry, why, Call, Cut, Drive, Image, KeyBlock, Lent, Mail, Reason, Request, Said};
 use model::{State, Values, HARDWARE, SECRET, SLOT_FLAGS, ZEROIZABLE};
-use sciambrunola::{flag, BLOCK_BYTES, LEAST_RESPONSE, NO_SLOT};
+use sciambrunola::{flag, LEAST_RESPONSE, NO_SLOT};
 use std::ops::Range;
 
 const DRIVES: usize = 120_000;
@@ -37,12 +37,6 @@ fn asked(lent: &Lent) -> Answered {
         (Said::Reason(reason), Said::Reason(same)) if reason == same => reason,
         _ => panic!("the safe call says {safe:?}, C is told {c:?}"),
     }
-}
-
-/// A drive with buffers for the mailbox.
-fn lent(drive: Drive) -> Lent {
-    let (block, response) = (vec![0xB1; BLOCK_BYTES], vec![0xA5; LEAST_RESPONSE]);
-    Lent { drive, block, response, ..Lent::default() }
 }
 
 /// The small drive after FERS of its slot, with this mark on cell 1.
@@ -74,7 +68,7 @@ fn slots(first: [u32; 6], second: [u32; 8]) -> Lent {
     let entries = vec![entry(0, 6, HARDWARE, SLOT_FLAGS), entry(6, 8, HARDWARE, SLOT_FLAGS)];
     let image = Image { cells: 14, bound: 60, entries_at: 8, entries }.bytes();
     let cells = [&first[..], &second].concat();
-    lent(Drive { image, cells, marks: vec![0; 14] })
+    lent::of(Drive { image, cells, marks: vec![0; 14] })
 }
 
 /// A drive for each case, with what the documents say that is answered.
@@ -194,7 +188,7 @@ fn drive(random: &mut Random) -> Drive {
 fn the_reason_is_the_models_on_generated_drives_and_contradicts_no_other_call() {
     const SEED: u64 = 0x5EED_0001_0059_0060;
     let total = Tally::over(DRIVES, |tally, number| {
-        let lent = lent(drive(&mut Random::numbered(SEED, number)));
+        let lent = lent::of(drive(&mut Random::numbered(SEED, number)));
         let answered = asked(&lent);
         assert_eq!(answered, why::why(&lent.drive), "drive {number}: {:X?}", lent.drive);
         assert!(agrees(answered, &Told::of(&lent)), "drive {number}, {answered:?}: {lent:X?}");

@@ -4,7 +4,7 @@
 
 use checks::calls::{self, Scene};
 use checks::painted::depth;
-use checks::stack::table::{self, Row, HEAD};
+use checks::stack::table::{self, Row, GROWN, HEAD};
 use checks::stack::{self, Used};
 use checks::tally::Tally;
 use std::io::Write;
@@ -37,9 +37,12 @@ fn faults(kept: &[Row], measured: &[(String, Used)]) -> Vec<String> {
             found.push(format!("{name}: safe Rust takes {safe_rust} bytes, not less than {KIB}"));
         }
     }
-    for Row { name, before, now, reasoned } in kept {
+    for (i, Row { name, before, now, reasoned }) in kept.iter().enumerate() {
         if !measured.iter().any(|(call, _)| call == name) {
             found.push(format!("{name}: no call is measured for this row of the table"));
+        }
+        if find(&kept[..i], name).is_some() {
+            found.push(format!("{name}: the table has a second row for it"));
         }
         if now.c > before.c && !reasoned {
             let [now, before] = [now.c, before.c];
@@ -82,12 +85,6 @@ fn no_generated_call_goes_deeper_than_its_row_says() {
     total.check((80_000, "calls, their stacks measured"), calls::outcomes(), LEAST);
 }
 
-/// A row with these bytes of C before and now.
-fn row(before: usize, now: usize, reasoned: bool) -> Vec<Row> {
-    let [before, now] = [before, now].map(|c| Used { c, safe_rust: 0 });
-    vec![Row { name: "KLOD".to_string(), before, now, reasoned }]
-}
-
 /// A call with these bytes.
 fn call(c: usize, safe_rust: usize) -> Vec<(String, Used)> {
     vec![("KLOD".to_string(), Used { c, safe_rust })]
@@ -95,19 +92,26 @@ fn call(c: usize, safe_rust: usize) -> Vec<(String, Used)> {
 
 #[test]
 fn every_fault_is_found() {
+    let (less, more) = ("| KLOD | 300 | 200 | 0 | 0 |\n", "| KLOD | 200 | 201 | 0 | 0 |\n");
+    let unreasoned = "from 200 to 201 bytes, and no reason is given";
+    let elsewhere = "None.\n\n## What is measured\n\n- KLOD: with 15 places held.";
     let cases = [
-        (row(300, 200, false), call(200, 1023), ""),
-        (row(200, 200, false), call(8, 8), ""),
-        (row(200, 201, true), call(201, 8), ""),
-        (row(300, 200, false), call(201, 9), "C takes 201 bytes, in the table 200"),
-        (row(300, 200, true), call(9, 1024), "safe Rust takes 1024 bytes, not less than 1024"),
-        (row(200, 201, false), call(9, 9), "from 200 to 201 bytes, and no reason is given"),
-        (row(300, 200, false), vec![], "no call is measured for this row of the table"),
-        (vec![], call(9, 9), "the table has no row for it"),
+        (less, "None.", call(200, 1023), ""),
+        (less, "None.", call(8, 8), ""),
+        (more, "- KLOD: a reason.", call(201, 8), ""),
+        (more, "- FERS: one.\n- KLOD: another.", call(201, 8), ""),
+        (more, "- KLOD refused: a reason.", call(9, 9), unreasoned),
+        (more, elsewhere, call(9, 9), unreasoned),
+        (less, "None.", call(201, 9), "C takes 201 bytes, in the table 200"),
+        (less, "None.", call(9, 1024), "safe Rust takes 1024 bytes, not less than 1024"),
+        (less, "None.", vec![], "no call is measured for this row of the table"),
+        ("", "None.", call(9, 9), "the table has no row for it"),
+        (&less.repeat(2), "None.", call(9, 9), "the table has a second row for it"),
     ];
-    for (kept, measured, fault) in cases {
+    for (rows, grown, measured, fault) in cases {
+        let kept = table::read(&format!("{HEAD}\n|---|\n{rows}\n{GROWN}\n{grown}\n"));
         let expected = if fault.is_empty() { vec![] } else { vec![format!("KLOD: {fault}")] };
-        assert_eq!(faults(&kept, &measured), expected);
+        assert_eq!(faults(&kept, &measured), expected, "{rows}{grown}");
     }
 }
 

@@ -7,7 +7,7 @@ use std::fs;
 
 /// Its head, and that of the list of rows that grew.
 pub const HEAD: &str = "| call | C before | C now | safe Rust before | safe Rust now |";
-const GROWN: &str = "## Calls that grew, and why\n";
+pub const GROWN: &str = "## Calls that grew, and why\n";
 
 /// A row, by the name of its calls.
 #[derive(Clone, Debug)]
@@ -21,13 +21,18 @@ pub struct Row {
 
 /// The table as it is kept.
 pub fn kept() -> Vec<Row> {
-    let text = fs::read_to_string(in_repository("docs/STACK.md")).expect("docs/STACK.md is there");
-    let under = |head| text.split_once(head).map(|(_, under)| under).expect("its head is there");
-    let lines = under(HEAD).lines().skip(2).take_while(|line| line.starts_with('|'));
-    lines.map(|line| read(line, under(GROWN))).collect()
+    read(&fs::read_to_string(in_repository("docs/STACK.md")).expect("docs/STACK.md is there"))
 }
 
-fn read(line: &str, grown: &str) -> Row {
+/// The table in a document, each row with its reason under the head of those that grew.
+pub fn read(text: &str) -> Vec<Row> {
+    let under = |head| text.split_once(head).map(|(_, under)| under).expect("its head is there");
+    let lines = under(HEAD).lines().skip(2).take_while(|line| line.starts_with('|'));
+    let grown: Vec<&str> = under(GROWN).lines().take_while(|line| !line.starts_with('#')).collect();
+    lines.map(|line| read_row(line, &grown)).collect()
+}
+
+fn read_row(line: &str, grown: &[&str]) -> Row {
     let cells: Vec<&str> = line.trim_matches('|').split('|').map(str::trim).collect();
     let number = |cell: &&str| cell.parse().ok();
     let bytes: Vec<usize> = cells.iter().skip(1).filter_map(number).collect();
@@ -36,7 +41,7 @@ fn read(line: &str, grown: &str) -> Row {
             name: cells[0].to_string(),
             before: Used { c: c_before, safe_rust: safe_rust_before },
             now: Used { c, safe_rust },
-            reasoned: grown.contains(&format!("\n- {}: ", cells[0])),
+            reasoned: grown.iter().any(|line| line.starts_with(&format!("- {}: ", cells[0]))),
         },
         _ => panic!("docs/STACK.md: no row of the table: {line}"),
     }
