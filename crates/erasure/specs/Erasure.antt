@@ -44,7 +44,7 @@ pub record Erasable (image cells marks : List ℕ) (i : ℕ) : Type 0 where
   pub partition : i < headerOf image .partitions
   pub may : zeroizable (entryOf image i) ≡ true
 
--- the lowest number of all these tests that applies, by the check of the drive, 0 where none does
+-- the lowest number of `eraseTests` that applies, by the check of the drive, 0 where none does
 abbrev pub refusalBy : Check → (image : List ℕ) (i : ℕ) (context : List ℕ) → ℕ
 refusalBy (NotReady number) image i context = number
 refusalBy (Ready header) image i context = numberOf (partitionTests image i context)

@@ -6,7 +6,7 @@ use mathlib.Core.List.{List, [], _++_}
 use native.Mathlib.Omega.{arith}
 use lib.ListN.{length, take, drop, length-drop, length-take}
 use borrow.Author.Tests.{leb-false, not-false}
-use Rattle.laws.specs.Refusals.{firstOf, numberOf, testAt, refusalAt, Past, refused-at, past-all, number-refuses, number-passes}
+use Rattle.laws.specs.Refusals.{numberOf, testAt, refusalAt, Past, refused-at, past-all, number-refuses, number-passes}
 use Rattle.context.specs.State.{State, withCells, withContext, Outcome, outcome, refusing, onCells}
 use Rattle.map.specs.declared.Header.{Header}
 use Rattle.map.specs.declared.Entry.{Entry}

@@ -83,8 +83,8 @@ fn first_short(first: u16, lowest: Lowest) -> u32
     }
 }
 
-// What is answered of a run that left these cells. Their part is taken before its end is looked at: so
-// the compiled run keeps less on the stack.
+// What is answered of a run that left these cells. Their part is taken before the run's end is looked
+// at: so the compiled code keeps less on the stack.
 fn answer_of(image: &[u8], cells: &[u32], i: u32, report: Report) -> Answer
     requires { ⌜ Whole (now image) (now cells) × (i < headerOf (now image) .partitions) × (report .burns ≤ 2048) ⌝ }
     ensures { λ r. ⌜ r ≡ answerBy (report .end) (now (image .entry)) i (tallyOf (now (cells .entry)) (report .burns)) ⌝ }

@@ -161,7 +161,7 @@ fn entry_good(before: usize, cells: u16, x: Entry, spare: u16) -> bool
 }
 
 // Whether the entries of an image with this header, as long as it says, keep their rules. Each is read
-// from its own eight bytes, so that no byte is tested for lying past the image's end.
+// from its own eight bytes, so that the compiler leaves out the tests for bytes past the image's end.
 fn entries_good(image: &[u8], h: Header) -> bool
     requires { ⌜ (h ≡ headerOf (now image)) × (length (now image) ≡ h .offset + 8 * h .partitions) ⌝ }
     ensures { λ r. ⌜ r ≡ allBelow (placeGood (now (image .entry))) (h .partitions) ⌝ }

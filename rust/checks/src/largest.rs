@@ -2,15 +2,14 @@
 
 use crate::maps::MOST_CELLS;
 use crate::random::Random;
-use model::{entry, Drive, Image, HARDWARE, PARTITIONS, SLOT_FLAGS};
+use model::{entry, Drive, Image, HARDWARE, PARTITIONS, SLOT_FLAGS, ZEROIZABLE};
 
 /// The cells of one of its partitions.
 pub const SHARE: usize = MOST_CELLS / PARTITIONS;
 /// The cells behind a zeroizable partition's data: its digest and its indicator.
 pub const TAIL: usize = 4;
-/// The last partition, and its first cell.
+/// The last partition.
 pub const LAST: u32 = PARTITIONS as u32 - 1;
-pub const LAST_CELL: usize = MOST_CELLS - SHARE;
 
 /// The map with every partition a slot.
 pub fn slots() -> Image {
@@ -48,11 +47,10 @@ pub fn last_slot_active() -> Drive {
     })
 }
 
-/// The same with a first partition that is no slot, but of this kind and these flags, and
-/// whose fuses are not set.
-pub fn first_no_slot(kind: u8, flags: u8) -> Drive {
+/// The same with a first partition of this kind that is zeroizable and no slot, its fuses not set.
+pub fn first_no_slot(kind: u8) -> Drive {
     let (mut image, mut drive) = (slots(), last_slot_active());
-    image.entries[0] = entry(0, SHARE as u16, kind, flags);
+    image.entries[0] = entry(0, SHARE as u16, kind, ZEROIZABLE);
     drive.cells[..SHARE].fill(0);
     Drive { image: image.bytes(), ..drive }
 }

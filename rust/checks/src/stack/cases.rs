@@ -1,14 +1,15 @@
 //! The calls whose stack is measured, each with what it is lent and what it comes to by documents
-//! 01 and 02: on the small drive, and on the largest map, where the active slot is the last and
-//! the cache is as full as what the call comes to allows, so that there is the most to go through.
+//! 01 and 02: on the small drive, and on the largest map, where the active slot is the last (but
+//! for the states) and the cache is as full as what the call comes to allows, so that there is the
+//! most to go through.
 
 use crate::calls::requests::fers;
-use crate::largest::{self, LAST, LAST_CELL, SHARE, TAIL};
+use crate::largest::{self, LAST, SHARE, TAIL};
 use crate::small::{self, MAP_TEXT, SLOT};
 use crate::{lent, texts};
 use model::Command::{Read, Write, Zeroize};
 use model::Mail::{Clkc, Fsta, Klod, Kunl};
-use model::{Call, Cut, Erase, Lent, Mail, Request, Values, HARDWARE, SOFTWARE, ZEROIZABLE};
+use model::{Call, Cut, Erase, Lent, Mail, Request, Values, HARDWARE, SOFTWARE};
 use sciambrunola::LONGEST_IMAGE;
 use std::ops::RangeInclusive;
 
@@ -58,7 +59,7 @@ fn large(tags: impl IntoIterator<Item = u64>) -> Lent {
 /// The largest map with every place held and a first partition of this kind that is no slot, so
 /// that it can change all the same.
 fn beside_slots(kind: u8) -> Lent {
-    lent::holding(lent::of(largest::first_no_slot(kind, ZEROIZABLE)), ALL)
+    lent::holding(lent::of(largest::first_no_slot(kind)), ALL)
 }
 
 /// What can be erased on the largest map: the last slot with no key held, and partitions that are
@@ -93,7 +94,7 @@ fn reading() -> Vec<Case> {
 
 /// On the largest map a word that is shown, and for WRITE and ZEROIZE one of the last slot too.
 fn direct() -> Vec<Case> {
-    let last = LAST_CELL as u32;
+    let last = LAST * SHARE as u32;
     let calls = [
         ("READ word", small([]), Read { cell: SOFTWARE_WORD }),
         ("READ word", beside_slots(SOFTWARE), Read { cell: 0 }),
