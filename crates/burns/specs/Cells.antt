@@ -108,23 +108,23 @@ module _ (marks : List ℕ) where
 -- ---- a run
 
 -- a turn of a run stops or goes on: what holds of both holds of the run
-module _ (P : Ran → Type 0) (marks : List ℕ) (bound mask k : ℕ) (word : Word) (words : List Word) (t : Tally) where
+module _ (P : Ran → Type 0) (marks : List ℕ) (mask k : ℕ) (word : Word) (words : List Word) (t : Tally) where
   pub turn-keeps : let u : Tally = carry marks word allOnes t in
-      (stopsAfter bound (u .burns) (u .cells) ≡ true → P (ran Stopped u))
-      → (stopsAfter bound (u .burns) (u .cells) ≡ false → P (burnsOf marks bound mask k words u))
-      → P (burnsOf marks bound mask (suc k) (word ∷ words) t)
+      (stopsAfter (u .burns) (u .cells) ≡ true → P (ran Stopped u))
+      → (stopsAfter (u .burns) (u .cells) ≡ false → P (burnsOf marks mask k words u))
+      → P (burnsOf marks mask (suc k) (word ∷ words) t)
   unfolding burnsOf
-  turn-keeps p q = cond-keeps P (stopsAfter bound _ _) _ _ p q
+  turn-keeps p q = cond-keeps P (stopsAfter _ _) _ _ p q
 
 -- whatever the cut, a run only adds fuses that are not stuck
-pub grown-burns : (marks : List ℕ) (bound mask k : ℕ) (words : List Word) (t : Tally) → Grown marks (t .cells) (burnsOf marks bound mask k words t .tally .cells)
+pub grown-burns : (marks : List ℕ) (mask k : ℕ) (words : List Word) (t : Tally) → Grown marks (t .cells) (burnsOf marks mask k words t .tally .cells)
 unfolding burnsOf
-grown-burns marks bound mask k [] t = grown-refl marks (t .cells)
-grown-burns marks bound mask zero (word ∷ words) t = grown-burn marks (word .at) (word .wide) mask (t .cells)
-grown-burns marks bound mask (suc k) (word ∷ words) t =
+grown-burns marks mask k [] t = grown-refl marks (t .cells)
+grown-burns marks mask zero (word ∷ words) t = grown-burn marks (word .at) (word .wide) mask (t .cells)
+grown-burns marks mask (suc k) (word ∷ words) t =
     let first = grown-burn marks (word .at) (word .wide) allOnes (t .cells) in
-    turn-keeps (λ (r : Ran). Grown marks (t .cells) (r .tally .cells)) marks bound mask k word words t
-    (λ _. first) (λ _. grown-trans first (grown-burns marks bound mask k words (carry marks word allOnes t)))
+    turn-keeps (λ (r : Ran). Grown marks (t .cells) (r .tally .cells)) marks mask k word words t
+    (λ _. first) (λ _. grown-trans first (grown-burns marks mask k words (carry marks word allOnes t)))
 
 -- no two ends are the same
 pub cut-not-whole : Cut ≡ Whole → ⊥
@@ -147,22 +147,22 @@ data Reached (j : ℕ) : List Word → Type 0 where
   later : {word : Word} {words : List Word} → Reached j words → Reached j (word ∷ words)
 
 -- a run that goes through its words fills each cell that they reach
-module _ (marks : List ℕ) (bound mask j x : ℕ) where
+module _ (marks : List ℕ) (mask j x : ℕ) where
   abbrev Filled : Ran → Type 0
   Filled r = r .end ≡ Whole → getD (r .tally .cells) j 0 ≡ full (getD marks j 0) x
 
   burns-fill : (k : ℕ) (words : List Word) (t : Tally) → j < length (t .cells) → Between (getD marks j 0) x (getD (t .cells) j 0) → Reached j words
-      → Filled (burnsOf marks bound mask k words t)
+      → Filled (burnsOf marks mask k words t)
   unfolding burnsOf
   burns-fill zero words t l b (here i) = λ e. absurd (cut-not-whole e)
   burns-fill zero words t l b (later r) = λ e. absurd (cut-not-whole e)
   burns-fill (suc k) words t l b (here {word = word} {words = rest} i) =
       let filled = burn-fills marks (t .cells) j l (word .at) (word .wide) (i .from) (i .upto) ∙ full-same b in
-      let after = grown-burns marks bound mask k rest (carry marks word allOnes t) .each j in
-      turn-keeps Filled marks bound mask k word rest t (λ _ e. absurd (stopped-not-whole e)) (λ _ _. full-stays (getD marks j 0) x filled after)
+      let after = grown-burns marks mask k rest (carry marks word allOnes t) .each j in
+      turn-keeps Filled marks mask k word rest t (λ _ e. absurd (stopped-not-whole e)) (λ _ _. full-stays (getD marks j 0) x filled after)
   burns-fill (suc k) words t l b (later {word = word} {words = rest} r) =
       let first = grown-burn marks (word .at) (word .wide) allOnes (t .cells) in
-      turn-keeps Filled marks bound mask k word rest t (λ _ e. absurd (stopped-not-whole e))
+      turn-keeps Filled marks mask k word rest t (λ _ e. absurd (stopped-not-whole e))
       (λ _. burns-fill k rest (carry marks word allOnes t) (rw (first .len) l) (between-trans b (first .each j)) r)
 
 -- ---- the order reaches every cell: the data words those before the last four, digest and indicator two each
@@ -201,8 +201,8 @@ order-reaches software n j four even h =
     (lt-or-le j (n - 4))
 
 -- a run that goes through its order fills every cell; x is the cell at some time before
-pub run-fills : (marks : List ℕ) (software : Bool) (bound k mask : ℕ) (cells : List ℕ) (j x : ℕ) → 4 ≤ length cells → length cells % 2 ≡ 0 → j < length cells
-    → Between (getD marks j 0) x (getD cells j 0) → run marks software bound k mask cells .end ≡ Whole
-    → getD (run marks software bound k mask cells .tally .cells) j 0 ≡ full (getD marks j 0) x
-run-fills marks software bound k mask cells j x four even l b =
-    burns-fill marks bound mask j x k (order software (length cells)) (start cells) l b (order-reaches software (length cells) j four even l)
+pub run-fills : (marks : List ℕ) (software : Bool) (k mask : ℕ) (cells : List ℕ) (j x : ℕ) → 4 ≤ length cells → length cells % 2 ≡ 0 → j < length cells
+    → Between (getD marks j 0) x (getD cells j 0) → run marks software k mask cells .end ≡ Whole
+    → getD (run marks software k mask cells .tally .cells) j 0 ≡ full (getD marks j 0) x
+run-fills marks software k mask cells j x four even l b =
+    burns-fill marks mask j x k (order software (length cells)) (start cells) l b (order-reaches software (length cells) j four even l)

@@ -1,12 +1,12 @@
--- Document 01, "Erasing a partition": the order of burns, and the one run in this order that erasures, cut ones and FERS are. Cells and
--- marks are the partition's, counted from where it starts. Assumes nothing.
+-- Document 01, "Erasing a partition", with request P4: the order of burns, and the one run in this order that erasures, cut ones and FERS
+-- are. Cells and marks are the partition's, counted from where it starts. Assumes nothing.
 use Prim.Native.Nat.{ℕ, zero, suc, _+_, _-_, _/_}
 use mathlib.Core.Bool.{Bool, true, cond, not, _&&_}
 use mathlib.Core.List.{List, [], _∷_, _++_}
 use lib.ListN.{length}
 use lib.Dec.{eqb}
 use Rattle.fuse.specs.Fuse.{cellsIn, allOnes, burnWord}
-use Rattle.partition.specs.Partition.{counted, tail}
+use Rattle.partition.specs.Partition.{marked, tail}
 use Rattle.burns.specs.declared.Word.{Word}
 use Rattle.burns.specs.declared.End.{End}
 use Rattle.burns.specs.declared.End.the-variants.{Whole, Stopped, Cut}
@@ -53,13 +53,13 @@ start cells = tallyOf cells 0
 abbrev pub carry : (marks : List ℕ) → Word → (v : ℕ) → Tally → Tally
 carry marks word v t = tallyOf (burnWord marks (word .at) (word .wide) v (t .cells)) (t .burns + 1)
 
--- the erasure goes on after the indicator's burn: the indicator is not short, so the partition is now counted as zeroized
-unfoldable pub goesOn : (bound : ℕ) (cells : List ℕ) → Bool
-goesOn bound cells = counted true bound cells
+-- request P4: "Erasure goes on whenever it is marked after the first burn"
+unfoldable pub goesOn : (cells : List ℕ) → Bool
+goesOn cells = marked true cells
 
--- "If the indicator is short after its burn the erasure stops"; "Otherwise it goes on through short words"
-unfoldable pub stopsAfter : (bound burns : ℕ) (cells : List ℕ) → Bool
-stopsAfter bound burns cells = eqb burns 1 && not (goesOn bound cells)
+-- a run stops only after its first burn, the indicator's; after any other "it goes on through short words"
+unfoldable pub stopsAfter : (burns : ℕ) (cells : List ℕ) → Bool
+stopsAfter burns cells = eqb burns 1 && not (goesOn cells)
 
 -- how a run ended, and what it has done
 pub record Ran : Type 0 where
@@ -71,16 +71,16 @@ ran end t = record { end = end; tally = t }
 
 -- the burns of the words in order: "the first k burns are whole, the burn numbered k has the mask .. in place of all ones, nothing
 -- follows"
-unfoldable pub burnsOf : (marks : List ℕ) (bound mask k : ℕ) → List Word → Tally → Ran
-burnsOf marks bound mask k [] t = ran Whole t
-burnsOf marks bound mask zero (word ∷ words) t = ran Cut (carry marks word mask t)
-burnsOf marks bound mask (suc k) (word ∷ words) t =
+unfoldable pub burnsOf : (marks : List ℕ) (mask k : ℕ) → List Word → Tally → Ran
+burnsOf marks mask k [] t = ran Whole t
+burnsOf marks mask zero (word ∷ words) t = ran Cut (carry marks word mask t)
+burnsOf marks mask (suc k) (word ∷ words) t =
     let u : Tally = carry marks word allOnes t in
-    cond (stopsAfter bound (u .burns) (u .cells)) (ran Stopped u) (burnsOf marks bound mask k words u)
+    cond (stopsAfter (u .burns) (u .cells)) (ran Stopped u) (burnsOf marks mask k words u)
 
 -- the run over a partition's cells; where its order ends before burn k, it is not cut
-abbrev pub run : (marks : List ℕ) (software : Bool) (bound k mask : ℕ) (cells : List ℕ) → Ran
-run marks software bound k mask cells = burnsOf marks bound mask k (order software (length cells)) (start cells)
+abbrev pub run : (marks : List ℕ) (software : Bool) (k mask : ℕ) (cells : List ℕ) → Ran
+run marks software k mask cells = burnsOf marks mask k (order software (length cells)) (start cells)
 
 -- what the code reports of a run, with the cells that it left
 abbrev pub ranAs : Report → (cells : List ℕ) → Ran

@@ -103,50 +103,50 @@ cell-within n j four h = by (eqb j (n - 4))
 
 -- ---- a run, burn by burn
 
-module _ (marks : List ℕ) (bound mask : ℕ) (words : List Word) (k j : ℕ) (t : Tally) (d : Word) where
-  run-done : length words ≤ j → burnsOf marks bound mask (k - j) (drop j words) t ≡ ran Whole t
+module _ (marks : List ℕ) (mask : ℕ) (words : List Word) (k j : ℕ) (t : Tally) (d : Word) where
+  run-done : length words ≤ j → burnsOf marks mask (k - j) (drop j words) t ≡ ran Whole t
   unfolding burnsOf
   run-done h = rw (drop-of-length-le words h)
 
-  run-cut : j < length words → j ≡ k → burnsOf marks bound mask (k - j) (drop j words) t ≡ ran Cut (carry marks (getD words j d) mask t)
+  run-cut : j < length words → j ≡ k → burnsOf marks mask (k - j) (drop j words) t ≡ ran Cut (carry marks (getD words j d) mask t)
   unfolding burnsOf
   run-cut h e = let z : k - j ≡ 0 = omega arith in rw (z, drop-cons words j d h)
 
   run-turn : j < length words → j < k → (u : Tally) → u ≡ carry marks (getD words j d) allOnes t
-      → burnsOf marks bound mask (k - j) (drop j words) t ≡ cond (stopsAfter bound (u .burns) (u .cells)) (ran Stopped u) (burnsOf marks bound mask (k - (j + 1)) (drop (j + 1) words) u)
+      → burnsOf marks mask (k - j) (drop j words) t ≡ cond (stopsAfter (u .burns) (u .cells)) (ran Stopped u) (burnsOf marks mask (k - (j + 1)) (drop (j + 1) words) u)
   unfolding burnsOf
   run-turn h l u e = let z : k - j ≡ suc (k - (j + 1)) = omega arith in rw (z, drop-cons words j d h, add-one j, e)
 
 -- ---- the loop
 
 -- before the next burn: the whole run is what is left of it, from this tally on
-pub record Running (marks : List ℕ) (software : Bool) (bound k mask : ℕ) (cells : List ℕ) (t : Tally) : Type 0 where
+pub record Running (marks : List ℕ) (software : Bool) (k mask : ℕ) (cells : List ℕ) (t : Tally) : Type 0 where
   pub within : t .burns ≤ length (order software (length cells))
   pub uncut : t .burns ≤ k
   pub len : length (t .cells) ≡ length cells
-  pub same : run marks software bound k mask cells ≡ burnsOf marks bound mask (k - t .burns) (drop (t .burns) (order software (length cells))) t
+  pub same : run marks software k mask cells ≡ burnsOf marks mask (k - t .burns) (drop (t .burns) (order software (length cells))) t
 
-pub running-start : (marks : List ℕ) (software : Bool) (bound k mask : ℕ) (cells : List ℕ) → Running marks software bound k mask cells (start cells)
-running-start marks software bound k mask cells = record { within = omega arith; uncut = omega arith; len = refl; same = rw (sub-zero k) }
+pub running-start : (marks : List ℕ) (software : Bool) (k mask : ℕ) (cells : List ℕ) → Running marks software k mask cells (start cells)
+running-start marks software k mask cells = record { within = omega arith; uncut = omega arith; len = refl; same = rw (sub-zero k) }
 
-module _ {marks : List ℕ} {software : Bool} {bound k mask : ℕ} {cells : List ℕ} {t : Tally} (h : Running marks software bound k mask cells t) where
-  pub running-done : length (order software (length cells)) ≤ t .burns → ran Whole t ≡ run marks software bound k mask cells
-  running-done l = sym (h .same ∙ run-done marks bound mask (order software (length cells)) k (t .burns) t (pairFrom 0) l)
+module _ {marks : List ℕ} {software : Bool} {k mask : ℕ} {cells : List ℕ} {t : Tally} (h : Running marks software k mask cells t) where
+  pub running-done : length (order software (length cells)) ≤ t .burns → ran Whole t ≡ run marks software k mask cells
+  running-done l = sym (h .same ∙ run-done marks mask (order software (length cells)) k (t .burns) t (pairFrom 0) l)
 
   -- this turn's word, and the tally after its burn
   module _ {word : Word} {u : Tally} (l : t .burns < length (order software (length cells))) (e : word ≡ getD (order software (length cells)) (t .burns) (pairFrom 0)) where
-    pub running-cut : t .burns ≡ k → u ≡ carry marks word mask t → ran Cut u ≡ run marks software bound k mask cells
-    running-cut q b = sym (h .same ∙ run-cut marks bound mask (order software (length cells)) k (t .burns) t (pairFrom 0) l q ∙ rw (← e, ← b))
+    pub running-cut : t .burns ≡ k → u ≡ carry marks word mask t → ran Cut u ≡ run marks software k mask cells
+    running-cut q b = sym (h .same ∙ run-cut marks mask (order software (length cells)) k (t .burns) t (pairFrom 0) l q ∙ rw (← e, ← b))
 
     module _ (q : t .burns ≡ k → ⊥) (b : u ≡ carry marks word allOnes t) where
-      turned : run marks software bound k mask cells
-          ≡ cond (stopsAfter bound (u .burns) (u .cells)) (ran Stopped u) (burnsOf marks bound mask (k - (t .burns + 1)) (drop (t .burns + 1) (order software (length cells))) u)
-      turned = h .same ∙ run-turn marks bound mask (order software (length cells)) k (t .burns) t (pairFrom 0) l (omega (arith, h .uncut)) u (b ∙ ap (λ (w : Word). carry marks w allOnes t) e)
+      turned : run marks software k mask cells
+          ≡ cond (stopsAfter (u .burns) (u .cells)) (ran Stopped u) (burnsOf marks mask (k - (t .burns + 1)) (drop (t .burns + 1) (order software (length cells))) u)
+      turned = h .same ∙ run-turn marks mask (order software (length cells)) k (t .burns) t (pairFrom 0) l (omega (arith, h .uncut)) u (b ∙ ap (λ (w : Word). carry marks w allOnes t) e)
 
-      pub running-stop : stopsAfter bound (u .burns) (u .cells) ≡ true → ran Stopped u ≡ run marks software bound k mask cells
+      pub running-stop : stopsAfter (u .burns) (u .cells) ≡ true → ran Stopped u ≡ run marks software k mask cells
       running-stop s = sym (turned ∙ rw s)
 
-      pub running-on : stopsAfter bound (u .burns) (u .cells) ≡ false → Running marks software bound k mask cells u
+      pub running-on : stopsAfter (u .burns) (u .cells) ≡ false → Running marks software k mask cells u
       running-on s =
           let more : u .burns ≡ t .burns + 1 = ap (λ (x : Tally). x .burns) b in
           record {
@@ -161,10 +161,10 @@ pub carried : {after left : List ℕ} (burns : ℕ) → after ≡ left → tally
 carried burns e = ap (λ (cells : List ℕ). tallyOf cells burns) e
 
 -- whether a run stops, by the number of its burns
-pub stops-first : (bound burns : ℕ) (cells : List ℕ) → burns ≡ 1 → not (goesOn bound cells) ≡ stopsAfter bound burns cells
+pub stops-first : (burns : ℕ) (cells : List ℕ) → burns ≡ 1 → not (goesOn cells) ≡ stopsAfter burns cells
 unfolding stopsAfter
-stops-first bound burns cells e = rw e
+stops-first burns cells e = rw e
 
-pub stops-later : (bound burns : ℕ) (cells : List ℕ) → (burns ≡ 1 → ⊥) → false ≡ stopsAfter bound burns cells
+pub stops-later : (burns : ℕ) (cells : List ℕ) → (burns ≡ 1 → ⊥) → false ≡ stopsAfter burns cells
 unfolding stopsAfter
-stops-later bound burns cells n = rw (ne-eqb burns 1 n)
+stops-later burns cells n = rw (ne-eqb burns 1 n)

@@ -4,9 +4,8 @@ use mathlib.Core.Path.{_≡_, refl}
 use mathlib.Core.Bool.{true, false}
 use mathlib.Core.List.{List, [], _∷_, _++_}
 use lib.ListN.{replicate}
-use lib.Count.{onesIn}
 use Rattle.fuse.specs.Fuse.{burnCell, burnWord}
-use Rattle.partition.specs.Partition.{shortAt, counted}
+use Rattle.partition.specs.Partition.{marked}
 use Rattle.burns.specs.declared.End.the-variants.{Whole, Stopped, Cut}
 use Rattle.burns.specs.Run.{wordFrom, pairFrom, wordsFrom, order, tallyOf, goesOn, stopsAfter, ran, burnsOf, run}
 
@@ -25,24 +24,26 @@ orders = refl
 
 runs :
     -- cut at the indicator; at the second data word; at the digest
-    run (zeros 8) false 60 0 0x3_0000_0005 (zeros 8)
-    ∷ run (zeros 8) false 60 2 0x3_0000_0005 (zeros 8)
-    ∷ run (zeros 8) false 60 3 0x3_0000_0005 (zeros 8)
+    run (zeros 8) false 0 0x3_0000_0005 (zeros 8)
+    ∷ run (zeros 8) false 2 0x3_0000_0005 (zeros 8)
+    ∷ run (zeros 8) false 3 0x3_0000_0005 (zeros 8)
     -- a word of one cell takes the mask's low 32 bits
-    ∷ run (zeros 6) true 60 1 0x3_0000_0005 (zeros 6)
+    ∷ run (zeros 6) true 1 0x3_0000_0005 (zeros 6)
     -- it goes on through a short word, here with five fuses stuck, and begins with the indicator though the first pair is full
-    ∷ run (0 ∷ 0 ∷ 0x1F ∷ zeros 5) false 60 9 0 (all ∷ all ∷ zeros 6)
-    -- four fuses of the indicator stuck, and five, which stop it
-    ∷ run (zeros 6 ++ (0xF ∷ 0 ∷ [])) true 60 9 0 (1 ∷ zeros 7)
-    ∷ run (zeros 6 ++ (0x1F ∷ 0 ∷ [])) true 60 9 0 (1 ∷ zeros 7)
+    ∷ run (0 ∷ 0 ∷ 0x1F ∷ zeros 5) false 9 0 (all ∷ all ∷ zeros 6)
+    -- all fuses of the indicator stuck but one, all of them, which stops it and sets nothing, and all of them where one was set before
+    ∷ run (zeros 6 ++ (all ∷ 0x7FFF_FFFF ∷ [])) true 9 0 (1 ∷ zeros 7)
+    ∷ run (zeros 6 ++ (all ∷ all ∷ [])) true 9 0 (1 ∷ zeros 7)
+    ∷ run (zeros 6 ++ (all ∷ all ∷ [])) true 9 0 (1 ∷ zeros 5 ++ (4 ∷ 0 ∷ []))
     ∷ []
     ≡ ran Cut (tallyOf (0 ∷ 0 ∷ 0 ∷ 0 ∷ 0 ∷ 0 ∷ 5 ∷ 3 ∷ []) 1)
     ∷ ran Cut (tallyOf (all ∷ all ∷ 5 ∷ 3 ∷ 0 ∷ 0 ∷ all ∷ all ∷ []) 3)
     ∷ ran Cut (tallyOf (all ∷ all ∷ all ∷ all ∷ 5 ∷ 3 ∷ all ∷ all ∷ []) 4)
     ∷ ran Cut (tallyOf (5 ∷ 0 ∷ 0 ∷ 0 ∷ all ∷ all ∷ []) 2)
     ∷ ran Whole (tallyOf (all ∷ all ∷ 0xFFFF_FFE0 ∷ all ∷ all ∷ all ∷ all ∷ all ∷ []) 4)
-    ∷ ran Whole (tallyOf (all ∷ all ∷ all ∷ all ∷ all ∷ all ∷ 0xFFFF_FFF0 ∷ all ∷ []) 6)
-    ∷ ran Stopped (tallyOf (1 ∷ 0 ∷ 0 ∷ 0 ∷ 0 ∷ 0 ∷ 0xFFFF_FFE0 ∷ all ∷ []) 1)
+    ∷ ran Whole (tallyOf (all ∷ all ∷ all ∷ all ∷ all ∷ all ∷ 0 ∷ 0x8000_0000 ∷ []) 6)
+    ∷ ran Stopped (tallyOf (1 ∷ zeros 7) 1)
+    ∷ ran Whole (tallyOf (all ∷ all ∷ all ∷ all ∷ all ∷ all ∷ 4 ∷ 0 ∷ []) 6)
     ∷ []
-unfolding burnsOf order wordsFrom burnWord burnCell stopsAfter goesOn counted shortAt onesIn
+unfolding burnsOf order wordsFrom burnWord burnCell stopsAfter goesOn marked
 runs = refl

@@ -66,35 +66,28 @@ fn word_at(n: usize, software: bool, j: usize) -> Word
     }
 }
 
-// Whether an erasure goes on, by what its first burn left: the partition counts as zeroized.
-fn goes_on(cells: &[u32], bound: u64) -> bool
-    ensures { λ r. ⌜ r ≡ goesOn bound (now (cells .entry)) ⌝ }
+// Whether an erasure goes on, by what its first burn left: the partition is marked.
+fn goes_on(cells: &[u32]) -> bool
+    ensures { λ r. ⌜ r ≡ goesOn (now (cells .entry)) ⌝ }
 {
-    partition::is_counted(cells, bound, true)
+    partition::is_marked(cells, true)
 }
 
 // Whether a run stops after its last burn, the number `burns` counted from 1.
-fn stops_after(cells: &[u32], bound: u64, burns: usize) -> bool
-    ensures { λ r. ⌜ r ≡ stopsAfter bound burns (now (cells .entry)) ⌝ }
+fn stops_after(cells: &[u32], burns: usize) -> bool
+    ensures { λ r. ⌜ r ≡ stopsAfter burns (now (cells .entry)) ⌝ }
 {
     if burns == 1 {
-        return !goes_on(cells, bound);
+        return !goes_on(cells);
     }
     false
 }
 
 // The run over a partition's cells and marks: all ones into each word, but the mask into the one that
 // burn number `k` burns, and nothing after it.
-pub fn run(
-    cells: &mut [u32],
-    marks: &[u32],
-    software: bool,
-    bound: u64,
-    k: usize,
-    mask: u64,
-) -> Report
+pub fn run(cells: &mut [u32], marks: &[u32], software: bool, k: usize, mask: u64) -> Report
     requires { ⌜ (4 ≤ length (now cells)) × (length (now cells) % 2 ≡ 0) × (length (now marks) ≡ length (now cells)) ⌝ }
-    ensures { λ r. ⌜ (ranAs r (now (cells .exit)) ≡ run (now (marks .entry)) software bound k mask (now (cells .entry))) × (r .burns ≤ length (now (cells .entry))) ⌝ }
+    ensures { λ r. ⌜ (ranAs r (now (cells .exit)) ≡ run (now (marks .entry)) software k mask (now (cells .entry))) × (r .burns ≤ length (now (cells .entry))) ⌝ }
 {
     let n = cells.len();
     let count = burn_count(n, software);
@@ -110,7 +103,7 @@ pub fn run(
         }
         fuse::burn_word(cells, marks, word.at, word.wide, fuse::ALL_ONES);
         burns += 1;
-        if stops_after(cells, bound, burns) {
+        if stops_after(cells, burns) {
             return Report {
                 end: End::Stopped,
                 burns: burns,

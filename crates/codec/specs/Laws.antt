@@ -12,7 +12,7 @@ use lib.Dec.{eqb}
 use lib.ListN.{length, getD, take, drop, length-take}
 use lib.Seq.{take-at, take-suc, drop-append-add}
 use borrow.Author.Tests.{eqb-true}
-use Rattle.laws.specs.Tests.{decided, not-yes, and, is-yes, neither}
+use Rattle.laws.specs.Tests.{decided, cond-keeps, not-yes, and, is-yes, neither}
 use Rattle.laws.specs.Refusals.{numberOf, testAt, refusalAt, Past, refused-at, past-all}
 use Rattle.laws.specs.Put.{Put}
 use Rattle.endian.specs.Endian.{u32At, u32-at, bytes4}
@@ -21,9 +21,19 @@ use Rattle.chksum.specs.Laws.{closed-is}
 use Rattle.codec.specs.declared.Numbers.{Numbers}
 use Rattle.codec.specs.declared.Command.{Command}
 use Rattle.codec.specs.declared.Command.the-variants.{Clkc, Klod, Kunl, Fers, Fsta, Unknown}
-use Rattle.codec.specs.Fields.{Field, Mek, field-discrete, same, among, width, answered, requestFields, responseFields, lengthOf, placeOf}
+use Rattle.codec.specs.Fields.{codeOf, commandOf, known, Field, Mek, field-discrete, same, among, width, answered, requestFields, responseFields, lengthOf, placeOf}
 use Rattle.codec.specs.Fields.{numberAt, TimeoutIn, TagIn, bytesAt, mekAt, joined, written, numbersIn, heldBy, responseOf, responseIn, leastRoom}
 use Rattle.codec.specs.Request.{requestTests}
+
+-- "The code names the command", and only its own code does
+record Own (code : ℕ) (command : Command) : Type 0 where
+  is : known command ≡ true → code ≡ codeOf command
+
+pub code-of : (code : ℕ) → known (commandOf code) ≡ true → code ≡ codeOf (commandOf code)
+code-of code = or Clkc (or Klod (or Kunl (or Fers (or Fsta (record { is = λ k. absurd (false≢true k) }))))) .is
+  where
+    or : (command : Command) {rest : Command} → Own code rest → Own code (cond (eqb code (codeOf command)) command rest)
+    or command {rest} r = cond-keeps (Own code) (eqb code (codeOf command)) command rest (λ y. record { is = λ _. eqb-true _ _ y }) (λ _. r)
 
 -- ---- which of a request's tests gives the number, by the test's place; 0 where none does
 

@@ -16,7 +16,7 @@ use Rattle.word.specs.declared.Lookup.the-variants.{Word, Nothing}
 use Rattle.word.specs.Word.{wordAt}
 use Rattle.drive.specs.declared.Check.{Check}
 use Rattle.drive.specs.declared.Check.the-variants.{Ready, Refused as NotReady}
-use Rattle.drive.specs.Drive.{driveTests, checkOf, countedAt, slotInUse}
+use Rattle.drive.specs.Drive.{driveTests, checkOf, markedAt, slotInUse}
 use Rattle.direct.specs.declared.Command.{Command}
 use Rattle.direct.specs.declared.Command.the-variants.{Read, Write, Zeroize}
 use Rattle.direct.specs.declared.Found.{Found}
@@ -43,12 +43,12 @@ isData Data = true
 isData Digest = false
 isData Indicator = false
 
--- 8, "the command may not touch it". READ: "Every word of a secret partition". WRITE: "digest .., indicator, life cycle, a partition
--- counted as zeroized, a value over 32 bits for a 32-bit word". ZEROIZE: "any word of a zeroizable partition, else 8"
+-- 8, "the command may not touch it". READ: "Every word of a secret partition". WRITE: "digest .., indicator, life cycle, ..
+-- a value over 32 bits for a 32-bit word" and, by request P4, "on a marked partition". ZEROIZE: "any word of a zeroizable partition, else 8"
 unfoldable pub forbidden : Command → (image cells : List ℕ) (i : ℕ) → Role → (wide : Bool) → Bool
 forbidden (Read cell) image cells i role wide = secret (entryOf image i)
 forbidden (Write cell value) image cells i role wide =
-    not (isData role) || lifeCycle (entryOf image i) || countedAt image cells i || (not wide && leb (2 ^ 32) value)
+    not (isData role) || lifeCycle (entryOf image i) || markedAt image cells i || (not wide && leb (2 ^ 32) value)
 forbidden (Zeroize cell) image cells i role wide = not (zeroizable (entryOf image i))
 
 -- 9, "WRITE would clear a fuse": "the value lacks a set fuse"

@@ -22,7 +22,7 @@ use Rattle.word.specs.Word.{wordAt}
 use Rattle.word.specs.Laws.{word-tells}
 use Rattle.drive.specs.declared.Check.{Check}
 use Rattle.drive.specs.declared.Check.the-variants.{Ready, Refused as NotReady}
-use Rattle.drive.specs.Drive.{Whole, countedAt, checkOf}
+use Rattle.drive.specs.Drive.{Whole, markedAt, checkOf}
 use Rattle.drive.specs.Laws.{check-refused, check-passed, judged}
 use Rattle.direct.specs.declared.Command.{Command}
 use Rattle.direct.specs.declared.Command.the-variants.{Read, Write, Zeroize}
@@ -52,8 +52,8 @@ module _ (image : List ℕ) (i : ℕ) {x : Entry} (e : x ≡ entryOf image i) wh
     unfolding forbidden
     read-forbidden q = q ∙ ap secret e
 
-    pub write-forbidden : (value : ℕ) {holds-data counted : Bool} → holds-data ≡ isData role → counted ≡ countedAt image cells i
-        → (not holds-data || lifeCycle x || counted || (not wide && leb (2 ^ 32) value)) ≡ forbidden (Write cell value) image cells i role wide
+    pub write-forbidden : (value : ℕ) {holds-data is-marked : Bool} → holds-data ≡ isData role → is-marked ≡ markedAt image cells i
+        → (not holds-data || lifeCycle x || is-marked || (not wide && leb (2 ^ 32) value)) ≡ forbidden (Write cell value) image cells i role wide
     unfolding forbidden
     write-forbidden value d q = rw (d, q, e)
 

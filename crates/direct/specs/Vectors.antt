@@ -13,9 +13,9 @@ use Rattle.map.specs.Map.{headerGood, fillerGood, entryGood, placeGood, mapGood
 use Rattle.map.specs.Image.{image, entry}
 use Rattle.map.specs.Vectors.{two}
 use Rattle.fuse.specs.Fuse.{burnCell, burnWord}
-use Rattle.partition.specs.Partition.{shortAt, counted}
+use Rattle.partition.specs.Partition.{marked}
 use Rattle.word.specs.Word.{wordIn, holdsAt, wordAt}
-use Rattle.drive.specs.Drive.{wholeArrays, countedAt}
+use Rattle.drive.specs.Drive.{wholeArrays, markedAt}
 use Rattle.cache.specs.Cache.{cacheOf, isAt}
 use Rattle.direct.specs.declared.Command.{Command}
 use Rattle.direct.specs.declared.Command.the-variants.{Read, Write, Zeroize}
@@ -26,7 +26,7 @@ use Rattle.direct.specs.Direct.{forbidden, clears, changesSlot, cellsAft
 -- a command, by computation: to unfold this is to unfold all that it computes with
 runs : (image marks : List ℕ) → Command → State → Outcome Answer State
 unfolding directOf mapGood wholeArrays every headerGood fillerGood entryGood placeGood allBelow u16At wordAt wordIn holdsAt firstFrom
-    forbidden countedAt counted shortAt onesIn clears changesSlot cacheOf isAt carriedOut cellsAfter burnWord burnCell
+    forbidden markedAt marked onesIn clears changesSlot cacheOf isAt carriedOut cellsAfter burnWord burnCell
 runs = directOf
 
 abbrev small : List ℕ
@@ -70,12 +70,16 @@ write-open = refl
 -- ---- refusals, with a key held: each call breaks its own rule and, where it can, every later one; the state stays
 
 -- the small drive with a fuse of the slot's digest set
-abbrev marked : List ℕ
-marked = 1 ∷ 0 ∷ 5 ∷ replicate 9 0
+abbrev with-digest : List ℕ
+with-digest = 1 ∷ 0 ∷ 5 ∷ replicate 9 0
 
--- and a key held
+-- and one with a fuse of its indicator set
+abbrev one-fuse : List ℕ
+one-fuse = 1 ∷ 0 ∷ 0 ∷ 0 ∷ 0 ∷ 0x10 ∷ replicate 6 0
+
+-- the first with a key held
 abbrev held : State
-held = state marked one-key
+held = state with-digest one-key
 
 abbrev does : Command → Outcome Answer State
 does command = runs small (replicate 12 0) command held
@@ -103,11 +107,16 @@ zeroizes : map does (Zeroize 3 ∷ Zeroize 6 ∷ Zeroize 0 ∷ Zeroize 4 ∷ [])
 unfolding runs
 zeroizes = refl
 
--- a partition counted as zeroized takes no WRITE (8), though the value lacks its fuses, nor does life cycle
+-- a marked partition takes no WRITE (8), though the value lacks its fuses: one fuse of the indicator marks it (request P4), and none leaves
+-- it open. Nor does life cycle take one
 kept :
-    runs (image 1 12 60 8 [] (entry 0 6 0 1)) (replicate 12 0) (Write 0 0) (state (replicate 12 0xFFFF_FFFF) no-key)
-    ∷ runs (image 1 12 60 8 [] (entry 0 6 2 0)) (replicate 12 0) (Write 0 0) (state marked no-key)
+    runs (image 1 12 60 8 [] (entry 0 6 0 1)) (replicate 12 0) (Write 0 0) (state one-fuse no-key)
+    ∷ runs (image 1 12 60 8 [] (entry 0 6 0 1)) (replicate 12 0) (Write 0 3) (state with-digest no-key)
+    ∷ runs (image 1 12 60 8 [] (entry 0 6 2 0)) (replicate 12 0) (Write 0 0) (state with-digest no-key)
     ∷ []
-    ≡ outcome (Refused 8) (state (replicate 12 0xFFFF_FFFF) no-key) ∷ outcome (Refused 8) (state marked no-key) ∷ []
+    ≡ outcome (Refused 8) (state one-fuse no-key)
+    ∷ outcome (Word 3) (state (3 ∷ 0 ∷ 5 ∷ replicate 9 0) no-key)
+    ∷ outcome (Refused 8) (state with-digest no-key)
+    ∷ []
 unfolding runs
 kept = refl

@@ -152,11 +152,11 @@ pub fn write(
             wide,
         } => {
             let in_use = drive::is_slot_in_use(image, partition, context);
-            let is_counted = drive::counted_at(image, cells, partition);
+            let is_marked = drive::marked_at(image, cells, partition);
             let x = map::read_entry(image, partition);
             if !is_data(role)
                 | (x.kind == map::LIFE_CYCLE)
-                | is_counted
+                | is_marked
                 | (!wide & (0x1_0000_0000 <= value))
             {
                 return Answer::Refused(8);

@@ -11,7 +11,7 @@ use Rattle.map.specs.Map.{headerOf, entryOf, zeroizable, slot, mapGood}
 use Rattle.partition.specs.declared.State.{State}
 use Rattle.partition.specs.declared.State.the-variants.{Erased, Torn, Blank, Programmed}
 use Rattle.partition.specs.declared.Survey.{Survey}
-use Rattle.partition.specs.Partition.{counted, surveyOf}
+use Rattle.partition.specs.Partition.{marked, surveyOf}
 use Rattle.cache.specs.Cache.{cacheOf, hasPlace}
 use Rattle.cache.specs.declared.Sought.the-variants.{Held}
 use Rattle.drive.specs.declared.Terms.{Terms}
@@ -56,9 +56,9 @@ termsOf image i = record { bound = headerOf image .bound; zeroizable = zeroizabl
 unfoldable pub surveyAt : (image cells : List ℕ) (i : ℕ) → Survey
 surveyAt image cells i = surveyOf (zeroizable (entryOf image i)) (headerOf image .bound) (cellsOf image cells i)
 
--- partition i is counted as zeroized
-unfoldable pub countedAt : (image cells : List ℕ) (i : ℕ) → Bool
-countedAt image cells i = counted (zeroizable (entryOf image i)) (headerOf image .bound) (cellsOf image cells i)
+-- partition i is marked (request P4)
+unfoldable pub markedAt : (image cells : List ℕ) (i : ℕ) → Bool
+markedAt image cells i = marked (zeroizable (entryOf image i)) (cellsOf image cells i)
 
 -- ---- the active slot
 

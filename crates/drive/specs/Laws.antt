@@ -17,7 +17,7 @@ use Rattle.map.specs.Map.{headerOf, entryOf, zeroizable, slot, mapGood}
 use Rattle.map.specs.Laws.{map-header, map-entry}
 use Rattle.partition.specs.declared.State.{State}
 use Rattle.partition.specs.declared.Survey.{Survey}
-use Rattle.partition.specs.Partition.{pairs, shortAt, shortPairs, counted, surveyOf}
+use Rattle.partition.specs.Partition.{pairs, shortAt, shortPairs, marked, surveyOf}
 use Rattle.cache.specs.Cache.{cacheOf, hasPlace}
 use Rattle.cache.specs.declared.Sought.the-variants.{Held}
 use Rattle.drive.specs.declared.Terms.{Terms}
@@ -25,7 +25,7 @@ use Rattle.drive.specs.declared.Check.{Check}
 use Rattle.drive.specs.declared.Check.the-variants.{Ready, Refused}
 use Rattle.drive.specs.declared.ActiveSlot.{ActiveSlot}
 use Rattle.drive.specs.declared.ActiveSlot.the-variants.{Absent}
-use Rattle.drive.specs.Drive.{Whole, wholeArrays, driveTests, checkOf, cellsOf, termsOf, surveyAt, countedAt, slotIn, slotAt, present}
+use Rattle.drive.specs.Drive.{Whole, wholeArrays, driveTests, checkOf, cellsOf, termsOf, surveyAt, markedAt, slotIn, slotAt, present}
 use Rattle.drive.specs.Drive.{openSlot, activePlace, activeSlot, slotInUse}
 
 -- ---- the check
@@ -110,9 +110,10 @@ module _ (image cells : List ℕ) (i : ℕ) (terms : Terms) (part : List ℕ) (t
   unfolding surveyAt
   survey-is r q = cc
 
-  pub counted-here : (r : Bool) → r ≡ counted (terms .zeroizable) (terms .bound) part → r ≡ countedAt image cells i
-  unfolding countedAt
-  counted-here r q = cc
+  pub marked-here : (r : Bool) → r ≡ marked (terms .zeroizable) part → r ≡ markedAt image cells i
+  unfolding markedAt
+  marked-here r q = cc
+
 
 -- a partition has at most 1,024 pairs, short or not
 module _ (image cells : List ℕ) (good : mapGood image ≡ true) (i : ℕ) (l : i < headerOf image .partitions) where

@@ -11,7 +11,7 @@ use Rattle.endian.specs.Endian.{u16At}
 use Rattle.map.specs.Map.{headerGood, fillerGood, entryGood, placeGood, mapGood}
 use Rattle.map.specs.Image.{image, entry}
 use Rattle.map.specs.Vectors.{one}
-use Rattle.partition.specs.Partition.{shortAt, counted, zeroCell, stateOf}
+use Rattle.partition.specs.Partition.{shortAt, marked, zeroCell, stateOf}
 use Rattle.drive.specs.Drive.{wholeArrays, checkOf, surveyAt, slotAt, openSlot, activeSlot, available}
 use Rattle.drive.specs.declared.Check.the-variants.{Refused}
 use Rattle.drive.specs.declared.ActiveSlot.{ActiveSlot}
@@ -36,7 +36,7 @@ twoSlots first second = activeSlot (image 2 12 60 8 [] (entry 0 6 0 7 ++ entry 6
 slots :
     twoSlots programmed erased ∷ twoSlots erased programmed ∷ twoSlots torn programmed ∷ twoSlots blank programmed ∷ twoSlots erased blank ∷ twoSlots erased erased ∷ []
     ≡ Programmed 0 ∷ Programmed 1 ∷ Torn 0 ∷ Blank 0 ∷ Blank 1 ∷ Absent ∷ []
-unfolding activeSlot openSlot slotAt surveyAt stateOf counted shortAt zeroCell allBelow countBelow firstFrom u16At onesIn
+unfolding activeSlot openSlot slotAt surveyAt stateOf marked shortAt zeroCell allBelow countBelow firstFrom u16At onesIn
 slots = refl
 
 -- only a programmed slot gives the HEK

@@ -12,7 +12,7 @@ use partition::Survey;
 ghost use mathlib.Core.Path.{_≡_};
 ghost use Prim.Native.Nat.{_<_};
 ghost use Rattle.map.specs.Map.{headerOf};
-ghost use Rattle.drive.specs.Drive.{Whole, checkOf, cellsOf, termsOf, surveyAt, countedAt, slotAt, present, slotNumber, available, activeSlot, slotInUse};
+ghost use Rattle.drive.specs.Drive.{Whole, checkOf, cellsOf, termsOf, surveyAt, markedAt, slotAt, present, slotNumber, available, activeSlot, slotInUse};
 
 // Refusal 1 or 2, or the header of a good map whose arrays have its length.
 pub enum Check {
@@ -82,13 +82,13 @@ pub fn survey_at(image: &[u8], cells: &[u32], i: u32) -> Survey
     partition::survey_cells(part_of(image, cells, i), terms.bound, terms.zeroizable)
 }
 
-// Whether partition `i` of a drive that was judged is counted as zeroized.
-pub fn counted_at(image: &[u8], cells: &[u32], i: u32) -> bool
+// Whether partition `i` of a drive that was judged is marked.
+pub fn marked_at(image: &[u8], cells: &[u32], i: u32) -> bool
     requires { ⌜ Whole (now image) (now cells) × (i < headerOf (now image) .partitions) ⌝ }
-    ensures { λ r. ⌜ r ≡ countedAt (now (image .entry)) (now (cells .entry)) i ⌝ }
+    ensures { λ r. ⌜ r ≡ markedAt (now (image .entry)) (now (cells .entry)) i ⌝ }
 {
     let terms = terms_of(image, i);
-    partition::is_counted(part_of(image, cells, i), terms.bound, terms.zeroizable)
+    partition::is_marked(part_of(image, cells, i), terms.zeroizable)
 }
 
 // Partition `i` as the active slot: absent where it is no slot or is erased. It surveys its part itself:

@@ -46,22 +46,22 @@ module _ (image cells : List ℕ) (i : ℕ) (whole : WholeDrive image cells) (l 
   -- so an erasure that is not to be cut is not
   pub uncut-judged : (marks : List ℕ) (mask : ℕ) → runOn image cells marks i never mask .end ≡ CutEnd → ⊥
   unfolding runOn
-  uncut-judged marks mask e = never-cut (cellsOf image marks i) (software (entryOf image i)) (headerOf image .bound) (cellsOf image cells i) never order-ends mask e
+  uncut-judged marks mask e = never-cut (cellsOf image marks i) (software (entryOf image i)) (cellsOf image cells i) never order-ends mask e
 
   -- and a run that would end before its cut is that erasure's, any other is cut
   module _ (marks : List ℕ) (k mask : ℕ) where
     late-run : runOn image cells marks i never 0 .tally .burns ≤ k → runOn image cells marks i k mask ≡ runOn image cells marks i never 0
     unfolding runOn
-    late-run late = ap (inWhole image cells i) (run-late (cellsOf image marks i) (software (entryOf image i)) (headerOf image .bound) (cellsOf image cells i) never order-ends k mask late)
+    late-run late = ap (inWhole image cells i) (run-late (cellsOf image marks i) (software (entryOf image i)) (cellsOf image cells i) never order-ends k mask late)
 
     early-run : k < runOn image cells marks i never 0 .tally .burns → runOn image cells marks i k mask .end ≡ CutEnd
     unfolding runOn
-    early-run early = run-early (cellsOf image marks i) (software (entryOf image i)) (headerOf image .bound) (cellsOf image cells i) never order-ends k mask early
+    early-run early = run-early (cellsOf image marks i) (software (entryOf image i)) (cellsOf image cells i) never order-ends k mask early
 
     -- in any case it is not cut where its order has at most k burns
     pub past-order : length (order (software (entryOf image i)) (entryOf image i .n)) ≤ k → runOn image cells marks i k mask .end ≡ CutEnd → ⊥
     unfolding runOn
-    past-order past e = never-cut (cellsOf image marks i) (software (entryOf image i)) (headerOf image .bound) (cellsOf image cells i) k (rw (part-long image cells i whole l) past) mask e
+    past-order past e = never-cut (cellsOf image marks i) (software (entryOf image i)) (cellsOf image cells i) k (rw (part-long image cells i whole l) past) mask e
 
 -- the burns that an answer tells
 abbrev pub burnsIn : Answer → ℕ
@@ -134,10 +134,10 @@ run-tells : (image cells marks : List ℕ) (i k mask : ℕ) → WholeDrive image
     → runOn image cells marks i k mask .end ≡ end → BurnsTold image i k (answerBy end image i (runOn image cells marks i k mask .tally))
 unfolding runOn
 run-tells image cells marks i k mask whole l Whole e =
-    run-burns (cellsOf image marks i) (software (entryOf image i)) (headerOf image .bound) k mask (cellsOf image cells i) .whole e
+    run-burns (cellsOf image marks i) (software (entryOf image i)) k mask (cellsOf image cells i) .whole e
     ∙ ap (λ (n : ℕ). length (order (software (entryOf image i)) n)) (part-long image cells i whole l)
-run-tells image cells marks i k mask whole l Stopped e = run-burns (cellsOf image marks i) (software (entryOf image i)) (headerOf image .bound) k mask (cellsOf image cells i) .stopped e
-run-tells image cells marks i k mask whole l CutEnd e = run-burns (cellsOf image marks i) (software (entryOf image i)) (headerOf image .bound) k mask (cellsOf image cells i) .cut e
+run-tells image cells marks i k mask whole l Stopped e = run-burns (cellsOf image marks i) (software (entryOf image i)) k mask (cellsOf image cells i) .stopped e
+run-tells image cells marks i k mask whole l CutEnd e = run-burns (cellsOf image marks i) (software (entryOf image i)) k mask (cellsOf image cells i) .cut e
 
 pub burns-told : (image marks : List ℕ) (i k mask : ℕ) (s : State) → BurnsTold image i k (eraseOf image marks i k mask s .told)
 unfolding eraseOf

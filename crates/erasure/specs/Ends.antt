@@ -1,70 +1,151 @@
--- What an erasure that ended leaves of its partition, told by its own answer: erased where the answer has no short pair, torn otherwise.
--- Assumes nothing.
-use Prim.Native.Nat.{ℕ, _%_, _≤_, _<_}
-use mathlib.Core.Path.{_≡_, refl, sym, _∙_}
-use mathlib.Core.Bool.{true}
+-- What an erasure leaves of its partition, told by its own answer: one that ended leaves it erased or torn, and 15, which is given exactly
+-- when no indicator fuse is set, leaves every cell. Assumes nothing.
+use Prim.Native.Nat.{ℕ, _+_, _-_, _*_, _%_, _≤_, _<_}
+use mathlib.Core.Path.{_≡_, refl, sym, ap, ap₂, _∙_}
+use mathlib.Core.Logic.{_⊎_, inl, inr, ⊎-elim, _↔_}
+use mathlib.Core.Bool.{Bool, true}
 use mathlib.Core.List.{List}
 use native.Mathlib.Omega.{arith}
-use lib.ListN.{length}
+use lib.ListN.{length, getD}
+use lib.Bits.{bitOr}
 use borrow.Author.Tests.{not-false, leb-false}
 use Rattle.laws.specs.Refusals.{first-elim}
 use Rattle.context.specs.State.{State, Outcome, refusing}
-use Rattle.map.specs.Map.{headerOf, entryOf, software, zeroizable}
-use Rattle.map.specs.Laws.{map-entry}
+use Rattle.map.specs.Map.{headerOf, entryOf, endOf, software, zeroizable}
+use Rattle.map.specs.Laws.{map-header, map-entry}
+use Rattle.fuse.specs.Fuse.{free}
+use Rattle.partition.specs.declared.Lowest.{Lowest}
+use Rattle.partition.specs.declared.Lowest.the-variants.{Cell, Nothing}
 use Rattle.partition.specs.declared.Survey.{Survey}
 use Rattle.partition.specs.declared.State.the-variants.{Erased, Torn}
-use Rattle.partition.specs.Partition.{shortPairs, counted, surveyOf}
-use Rattle.partition.specs.Laws.{erased-is, torn-is}
+use Rattle.partition.specs.Partition.{indicator, shortPairs, lowestShort, marked, surveyOf}
+use Rattle.partition.specs.Marked.{erased-exactly, torn-otherwise}
 use Rattle.burns.specs.declared.End.{End}
 use Rattle.burns.specs.declared.End.the-variants.{Whole, Stopped, Cut as CutEnd}
-use Rattle.burns.specs.Safe.{on-counted, safe-start, whole-on}
+use Rattle.burns.specs.Safe.{on-marked, safe-start, whole-on, stopped-exactly, stopped-same}
 use Rattle.drive.specs.Drive.{Whole as WholeDrive, cellsOf, surveyAt}
 use Rattle.erasure.specs.declared.Answer.{Answer}
 use Rattle.erasure.specs.declared.Answer.the-variants.{Ended, Cut, Refused}
-use Rattle.erasure.specs.Erasure.{eraseTests, runOn, answerBy, unburned, burning, eraseOf, erasureOf, cutErasureOf}
-use Rattle.erasure.specs.Laws.{part-long}
-use Rattle.erasure.specs.Parts.{run-part}
+use Rattle.erasure.specs.Erasure.{eraseTests, runOn, firstShort, answerBy, unburned, burning, eraseOf, erasureOf, cutErasureOf}
+use Rattle.erasure.specs.Laws.{part-long, part-end}
+use Rattle.erasure.specs.Parts.{array-at, run-part, run-outside, run-length, same-array}
 use Rattle.erasure.specs.Cuts.{whole-by}
 
--- a partition of which an erasure has told that so many pairs are short
-pub record LeftBy (short : ℕ) (left : Survey) : Type 0 where
-  -- "erased: counted as zeroized, no pair short; torn: counted as zeroized, some pair short"
-  pub erased : short ≡ 0 → left .state ≡ Erased
-  pub torn : 1 ≤ short → left .state ≡ Torn
+-- the first cell of a zeroizable partition's indicator, its last pair, in the whole array
+abbrev pub indicatorCell : (image : List ℕ) (i : ℕ) → ℕ
+indicatorCell image i = endOf (entryOf image i) - 2
+
+-- ---- the claims
+
+-- a partition of which an erasure that ended has told so many short pairs and this first short cell; its indicator starts at a cell
+pub record LeftBy (cell short first : ℕ) (left : Survey) : Type 0 where
+  -- "Erased now means marked with no short pair besides the indicator": no pair is short, or the first short cell is the indicator's
+  pub erased : (left .state ≡ Erased) ↔ ((short ≡ 0) ⊎ (first ≡ cell))
+  -- "torn means marked otherwise"
+  pub torn : (left .state ≡ Erased → ⊥) → left .state ≡ Torn
   pub as-told : left .short ≡ short
 
--- so it is where the partition is counted as zeroized, and its short pairs were told
-left-by : (bound : ℕ) (part : List ℕ) (short : ℕ) → counted true bound part ≡ true → short ≡ shortPairs bound part → LeftBy short (surveyOf true bound part)
-left-by bound part short c e = record {
-  erased = λ none. erased-is true bound part c (omega (arith, none, e));
-  torn = λ some. torn-is true bound part c (λ z. omega (arith, some, e));
-  as-told = sym e;
-}
+-- "no indicator fuse is set after its burn": each of its two cells is 0 with every fuse set that is not stuck
+abbrev pub NoneSet : (image cells marks : List ℕ) (i : ℕ) → Type 0
+NoneSet image cells marks i = (j : ℕ) → indicatorCell image i ≤ j → j < endOf (entryOf image i) → bitOr (getD cells j 0) (free (getD marks j 0)) ≡ 0
 
--- after a run that went through its order it is
-module _ (image cells marks : List ℕ) (i k mask : ℕ) (whole : WholeDrive image cells) (l : i < headerOf image .partitions)
-    (may : zeroizable (entryOf image i) ≡ true) where
+-- ---- a run on a drive that was judged
+
+module _ (image cells marks : List ℕ) (i k mask : ℕ) (whole : WholeDrive image cells) (l : i < headerOf image .partitions) where
+  abbrev part : (array : List ℕ) → List ℕ
+  part array = cellsOf image array i
+
+  abbrev bound : ℕ
+  bound = headerOf image .bound
+
   abbrev left : List ℕ
   left = runOn image cells marks i k mask .tally .cells
 
-  run-counted : runOn image cells marks i k mask .end ≡ Whole → counted true (headerOf image .bound) (cellsOf image left i) ≡ true
+  long : length (part cells) ≡ entryOf image i .n
+  long = part-long image cells i whole l
+
+  least : 4 ≤ entryOf image i .n
+  least = map-entry image (whole .good) i l .n-least
+
+  four : 4 ≤ length (part cells)
+  four = rw long least
+
+  even : length (part cells) % 2 ≡ 0
+  even = rw long (map-entry image (whole .good) i l .n-even)
+
+  -- one that went through its order leaves the partition marked
+  run-marked : runOn image cells marks i k mask .end ≡ Whole → marked true (part left) ≡ true
   unfolding runOn
-  run-counted e =
-      let rules = map-entry image (whole .good) i l in
-      let long = part-long image cells i whole l in
-      let bound = headerOf image .bound in
-      let four : 4 ≤ length (cellsOf image cells i) = rw long (rules .n-least) in
-      let even : length (cellsOf image cells i) % 2 ≡ 0 = rw long (rules .n-even) in
-      sym (on-counted bound (cellsOf image left i)) ∙ rw (run-part image cells marks i k mask whole l)
-      (whole-on (safe-start (cellsOf image marks i) bound (cellsOf image cells i)) four even (software (entryOf image i)) k mask e)
+  run-marked e =
+      sym (on-marked (part left)) ∙ rw (run-part image cells marks i k mask whole l)
+      (whole-on (safe-start (part marks) (part cells)) four even (software (entryOf image i)) k mask e)
 
-  run-leaves : runOn image cells marks i k mask .end ≡ Whole → LeftBy (shortPairs (headerOf image .bound) (cellsOf image left i)) (surveyAt image left i)
+  left-long : length (part left) ≡ entryOf image i .n
+  left-long = part-long image left i (record { good = whole .good; long = run-length image cells marks i k mask whole l ∙ whole .long }) l
+
+  -- the lowest short pair is the indicator exactly when the first short cell is the indicator's
+  lowest-cell : (lowest : Lowest) → (lowest ≡ Cell (2 * indicator (part left))) ↔ (firstShort (entryOf image i .first) lowest ≡ indicatorCell image i)
+  lowest-cell lowest = (to lowest, from lowest)
+    where
+      cell-is : entryOf image i .first + 2 * indicator (part left) ≡ indicatorCell image i
+      cell-is = omega (arith, left-long, least, map-entry image (whole .good) i l .n-even)
+
+      under : indicatorCell image i < 2048
+      under = omega (arith, least, part-end image cells i whole l, whole .long, map-header image (whole .good) .cells-most)
+
+      to : (lowest : Lowest) → lowest ≡ Cell (2 * indicator (part left)) → firstShort (entryOf image i .first) lowest ≡ indicatorCell image i
+      to lowest e = rw e cell-is
+
+      from : (lowest : Lowest) → firstShort (entryOf image i .first) lowest ≡ indicatorCell image i → lowest ≡ Cell (2 * indicator (part left))
+      from (Cell k) e = ap Cell (omega (arith, e, cell-is))
+      from Nothing e = absurd (omega (arith, e, under))
+
+  run-leaves : zeroizable (entryOf image i) ≡ true → runOn image cells marks i k mask .end ≡ Whole
+      → LeftBy (indicatorCell image i) (shortPairs bound (part left)) (firstShort (entryOf image i .first) (lowestShort bound (part left))) (surveyAt image left i)
   unfolding surveyAt
-  run-leaves e = rw may (left-by (headerOf image .bound) (cellsOf image left i) _ (run-counted e) refl)
+  run-leaves may e =
+      let m = run-marked e in
+      let same = erased-exactly true bound (part left) m in
+      let cell = lowest-cell (lowestShort bound (part left)) in
+      rw may (record {
+        erased = (
+          (λ y. ⊎-elim inl (λ h. inr (cell .0 h)) (same .0 y)),
+          λ t. same .1 (⊎-elim inl (λ h. inr (cell .1 h)) t),
+        );
+        torn = torn-otherwise true bound (part left) m;
+        as-told = refl;
+      })
 
--- what an answer says of the partition: one that ended tells its short pairs, any other nothing
+  -- the run stops exactly when no indicator fuse is set, unless its first burn is cut
+  pub stops-exactly : 1 ≤ k → (runOn image cells marks i k mask .end ≡ Stopped) ↔ NoneSet image cells marks i
+  unfolding runOn
+  stops-exactly first =
+      let in-part = stopped-exactly (part marks) (software (entryOf image i)) k mask (part cells) (omega (arith, four)) even first in
+      let x = entryOf image i in
+      (
+        (λ e j a b.
+        let from : x .first ≤ j = omega (arith, least) in
+        ap₂ (λ (cell stuck : ℕ). bitOr cell (free stuck)) (sym (array-at image cells i j from b)) (sym (array-at image marks i j from b))
+        ∙ in-part .0 e (j - x .first) (omega (arith, long)) (omega (arith, long))),
+        λ none. in-part .1
+        (λ j a b.
+        let back : x .first + j - x .first ≡ j = omega arith in
+        let here : (array : List ℕ) → getD (part array) j 0 ≡ getD array (x .first + j) 0 =
+        λ array. ap (λ (at : ℕ). getD (part array) at 0) (sym back) ∙ array-at image array i (x .first + j) (omega arith) (omega (arith, long, b)) in
+        ap₂ (λ (cell stuck : ℕ). bitOr cell (free stuck)) (here cells) (here marks) ∙ none (x .first + j) (omega (arith, long)) (omega (arith, long, b))),
+      )
+
+  -- and then leaves every cell as it was
+  pub stops-same : runOn image cells marks i k mask .end ≡ Stopped → left ≡ cells
+  unfolding runOn
+  stops-same e =
+      same-array image i left cells (run-length image cells marks i k mask whole l) (run-outside image cells marks i k mask whole l)
+      (run-part image cells marks i k mask whole l ∙ stopped-same (part marks) (software (entryOf image i)) k mask (part cells) (omega (arith, four)) even e)
+
+-- ---- what an answer says of the partition: one that ended tells its short pairs and the first, any other nothing
+
 abbrev pub LeftAs : (image : List ℕ) (i : ℕ) → Answer → (cells : List ℕ) → Type 0
-LeftAs image i (Ended short first burns) cells = LeftBy short (surveyAt image cells i)
+LeftAs image i (Ended short first burns) cells = LeftBy (indicatorCell image i) short first (surveyAt image cells i)
 LeftAs image i (Cut burns) cells = Unit {0}
 LeftAs image i (Refused number burns) cells = Unit {0}
 

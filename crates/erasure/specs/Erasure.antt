@@ -61,7 +61,7 @@ inWhole image cells i r = ran (r .end) (tallyOf (putPart image cells i (r .tally
 
 -- "Uncut and cut erasures, FERS among them, are one run": the run over partition i, cut at burn k
 unfoldable pub runOn : (image cells marks : List ℕ) (i k mask : ℕ) → Ran
-runOn image cells marks i k mask = inWhole image cells i (run (cellsOf image marks i) (software (entryOf image i)) (headerOf image .bound) k mask (cellsOf image cells i))
+runOn image cells marks i k mask = inWhole image cells i (run (cellsOf image marks i) (software (entryOf image i)) k mask (cellsOf image cells i))
 
 -- the burn that an erasure which is not cut would be cut at: no order reaches it
 abbrev pub never : ℕ
@@ -83,7 +83,7 @@ answerBy Whole image i t =
 answerBy Stopped image i t = Refused 15 (t .burns)
 answerBy CutEnd image i t = Cut (t .burns)
 
--- what a run answers, and the cells that it leaves: with 15 those with the indicator burned
+-- what a run answers, and the cells that it leaves
 abbrev pub ranOf : (image : List ℕ) (i : ℕ) → Ran → Outcome Answer (List ℕ)
 ranOf image i r = outcome (answerBy (r .end) image i (r .tally)) (r .tally .cells)
 

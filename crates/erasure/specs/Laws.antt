@@ -91,13 +91,13 @@ module _ (image cells marks : List ℕ) (i : ℕ) (ok : Erasable image cells mar
   burns-fit l = omega (arith, rw (part-is image cells i x e) at l, part-small image cells i (ok .whole) (ok .partition))
 
   -- a run over the part, as one over the partition
-  pub ran-on : {header : Header} → header ≡ headerOf image → {cells-alone : Bool} → cells-alone ≡ software x → (k mask : ℕ) {r : Report} {part : List ℕ}
-      → ranAs r part ≡ run (partBy marks) cells-alone (header .bound) k mask (partBy cells)
+  pub ran-on : {cells-alone : Bool} → cells-alone ≡ software x → (k mask : ℕ) {r : Report} {part : List ℕ}
+      → ranAs r part ≡ run (partBy marks) cells-alone k mask (partBy cells)
       → ranAs r (take (x .first) cells ++ (part ++ drop (x .first + x .n - x .first) (drop (x .first) cells))) ≡ runOn image cells marks i k mask
   unfolding runOn
-  ran-on {header} h {cells-alone} w k mask {r} {part} q =
+  ran-on {cells-alone} w k mask {r} {part} q =
       let width : x .first + x .n - x .first ≡ x .n = omega arith in
-      let same : ranAs r part ≡ run (cellsOf image marks i) (software (entryOf image i)) (headerOf image .bound) k mask (cellsOf image cells i) = rw (w, width, e, h) at q in
+      let same : ranAs r part ≡ run (cellsOf image marks i) (software (entryOf image i)) k mask (cellsOf image cells i) = rw (w, width, e) at q in
       rw (width, e) (ap (inWhole image cells i) same)
 
 -- ---- the answer, at the values that were read

@@ -66,10 +66,10 @@ module _ (image cells : List ℕ) (i : ℕ) (part : List ℕ) (within : endOf (e
 -- a run over a partition
 module _ (image cells marks : List ℕ) (i k mask : ℕ) (whole : Whole image cells) (l : i < headerOf image .partitions) where
   abbrev after : List ℕ
-  after = run (cellsOf image marks i) (software (entryOf image i)) (headerOf image .bound) k mask (cellsOf image cells i) .tally .cells
+  after = run (cellsOf image marks i) (software (entryOf image i)) k mask (cellsOf image cells i) .tally .cells
 
   kept-long : length after ≡ entryOf image i .n
-  kept-long = length-run (cellsOf image marks i) (software (entryOf image i)) (headerOf image .bound) k mask (cellsOf image cells i) ∙ part-long image cells i whole l
+  kept-long = length-run (cellsOf image marks i) (software (entryOf image i)) k mask (cellsOf image cells i) ∙ part-long image cells i whole l
 
   pub run-part : cellsOf image (runOn image cells marks i k mask .tally .cells) i ≡ after
   unfolding runOn

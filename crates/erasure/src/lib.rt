@@ -59,14 +59,12 @@ fn run_on(image: &[u8], cells: &mut [u32], marks: &[u32], i: u32, k: u32, mask: 
     requires { ⌜ Erasable (now image) (now cells) (now marks) i ⌝ }
     ensures { λ r. ⌜ (ranAs r (now (cells .exit)) ≡ runOn (now (image .entry)) (now (cells .entry)) (now (marks .entry)) i k mask) × (r .burns ≤ 2048) ⌝ }
 {
-    let header = map::read_header(image);
     let x = map::read_entry(image, i);
     let first = x.first as usize;
     burns::run(
         &mut cells[first..first + (x.n as usize)],
         &marks[first..first + (x.n as usize)],
         map::is_software(x),
-        header.bound as u64,
         k as usize,
         mask,
     )

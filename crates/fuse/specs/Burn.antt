@@ -8,7 +8,7 @@
 --     fits        a cell stays a cell of 32 fuses
 --     ones-*      how many are set: the language's count, at most 64, monotone; so a pair only ever stops being short
 use Prim.Native.Nat.{ℕ, _+_, _-_, _/_, _%_, _^_, _≤_, _<_}
-use mathlib.Core.Path.{_≡_, sym, ap, _∙_}
+use mathlib.Core.Path.{_≡_, refl, sym, ap, _∙_}
 use mathlib.Core.Bool.{Bool, true, false}
 use mathlib.Core.List.{List}
 use native.Mathlib.Nat.{lt-of-le-of-lt}
@@ -17,13 +17,13 @@ use lib.ListN.{take, drop, set}
 use lib.Seq.{drop-set-lt, drop-set-add, take-set-le}
 use mathlib.Core.Logic.{_⊎_, inl, inr, ⊎-elim}
 use lib.Bits.{bitAnd, bitOr, or-lt, and-le-r}
-use lib.Count.{ones}
+use lib.Count.{ones, onesIn}
 use lib.Pow.{ones-sub-lt}
 use borrow.Author.Tests.{lt-ltb, ltb-true}
 use Rattle.laws.specs.Tests.{lt-or-le}
 use Rattle.laws.specs.Bits.{bit, _⊆_, ext, bit-or, bit-and, bit-not, sub-refl, sub-antisym, sub-or-l, sub-or-r, sub-and-l, sub-and-r, or-lub, or-mono, and-mono}
 use Rattle.laws.specs.Bits.{full-and}
-use Rattle.laws.specs.Ones.{counted, count-le, count-mono, cat-sub}
+use Rattle.laws.specs.Ones.{counted, count-zero, count-le, count-mono, cat-sub}
 use Rattle.fuse.specs.Fuse.{allSet, free, burn, pairOf, onesOf, short, cellsIn, burnCell, burnWord}
 
 -- "A mark on a set fuse has no effect": two marks that differ only on set fuses make the same burn
@@ -91,6 +91,14 @@ cells-least false = omega arith
 
 pub ones-counted : {n : ℕ} → n < 2 ^ 64 → onesOf n ≡ ones n
 ones-counted {n} h = counted 64 n h
+
+-- 0 alone has no ones
+pub ones-zero : onesOf 0 ≡ 0
+unfolding onesIn
+ones-zero = refl
+
+pub no-ones : {low high : ℕ} → low < 2 ^ 32 → high < 2 ^ 32 → onesOf (pairOf low high) ≡ 0 → pairOf low high ≡ 0
+no-ones {low} {high} l h e = count-zero 64 (pairOf low high) (omega arith) e
 
 pub ones-most : (n : ℕ) → onesOf n ≤ 64
 ones-most n = count-le 64 n

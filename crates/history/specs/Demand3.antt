@@ -12,7 +12,7 @@ use Rattle.context.specs.State.{State, withCells, withContext}
 use Rattle.map.specs.Map.{headerOf, entryOf, endOf, software, zeroizable, mapGood}
 use Rattle.fuse.specs.Fuse.{free}
 use Rattle.burns.specs.Run.{order}
-use Rattle.drive.specs.Drive.{wholeArrays, countedAt}
+use Rattle.drive.specs.Drive.{wholeArrays, markedAt}
 use Rattle.cache.specs.Cache.{cacheOf, hasPlace}
 use Rattle.cache.specs.declared.Sought.the-variants.{Held}
 use Rattle.erasure.specs.Parts.{Outside}
@@ -107,8 +107,9 @@ Same start now j = getD (now .cells) j 0 ≡ getD (start .cells) j 0
 
 -- of the state now, after these calls from the start
 pub record Claim (image marks : List ℕ) (i : ℕ) (start : State) (calls : List Call) (now : State) : Type 0 where
-  -- "the partition is counted as zeroized, or every word but its indicator is as it was before the first attempt"
-  pub counted-or-untouched : (countedAt image (now .cells) i ≡ true) ⊎ ((j : ℕ) → InPartition image i j → (InIndicator image i j → ⊥) → Same start now j)
+  -- "the partition is counted as zeroized, or every word but its indicator is as it was before the first attempt", where request P4 says:
+  -- "In demand 3 read "marked" for "counted as zeroized""
+  pub marked-or-untouched : (markedAt image (now .cells) i ≡ true) ⊎ ((j : ℕ) → InPartition image i j → (InIndicator image i j → ⊥) → Same start now j)
   -- "No fuse outside it has changed"
   pub outside : (j : ℕ) → Outside image i j → Same start now j
   pub as-many : length (now .cells) ≡ length (start .cells)

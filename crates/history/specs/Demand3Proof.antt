@@ -12,10 +12,10 @@ use Rattle.laws.specs.Bits.{_⊆_, sub-refl}
 use Rattle.context.specs.State.{State}
 use Rattle.map.specs.Map.{headerOf, entryOf, endOf, zeroizable, mapGood}
 use Rattle.fuse.specs.Fuse.{free}
-use Rattle.drive.specs.Drive.{wholeArrays, countedAt}
+use Rattle.drive.specs.Drive.{wholeArrays, markedAt}
 use Rattle.cache.specs.Laws.{emptied-held}
 use Rattle.burns.specs.Cells.{full}
-use Rattle.burns.specs.Safe.{Closed, Untouched, on-counted}
+use Rattle.burns.specs.Safe.{Closed, Untouched, on-marked}
 use Rattle.erasure.specs.Laws.{part-long}
 use Rattle.erasure.specs.Parts.{Outside, array-at}
 use Rattle.history.specs.Calls.{Call, Restart, after, afterAll}
@@ -110,13 +110,13 @@ module _ (image marks : List ℕ) (i : ℕ) (cells : List ℕ) where
       (λ (g : mapGood image ≡ false). inr (not-ready (inl g)))
       (decided (mapGood image))
 
-  -- counted as zeroized, or untouched but for the indicator
+  -- marked, or untouched but for the indicator
   module _ (s : State) (r : Reached image marks i cells s) where
-    gate-counted : Ready image marks i cells
-        → Closed (part image marks i cells marks) (headerOf image .bound) (part image marks i cells cells) (part image marks i cells (s .cells))
-        → countedAt image (s .cells) i ≡ true
-    unfolding countedAt
-    gate-counted ready closed = rw (ready .may) (sym (on-counted (headerOf image .bound) (part image marks i cells (s .cells))) ∙ closed .on)
+    gate-marked : Ready image marks i cells
+        → Closed (part image marks i cells marks) (part image marks i cells cells) (part image marks i cells (s .cells))
+        → markedAt image (s .cells) i ≡ true
+    unfolding markedAt
+    gate-marked ready closed = rw (ready .may) (sym (on-marked (part image marks i cells (s .cells))) ∙ closed .on)
 
     gate-untouched : Ready image marks i cells → Untouched (part image marks i cells cells) (part image marks i cells (s .cells))
         → (j : ℕ) → InPartition image i j → (InIndicator image i j → ⊥) → getD (s .cells) j 0 ≡ getD cells j 0
@@ -126,10 +126,10 @@ module _ (image marks : List ℕ) (i : ℕ) (cells : List ℕ) where
         let long = part-long image cells i (there image marks i cells ready 0 0 s r) (ready .partition) in
         sym (cell-at j inside (s .cells)) ∙ untouched (at j inside) (omega (arith, inside .0)) ∙ cell-at j inside cells
 
-    gate : (countedAt image (s .cells) i ≡ true) ⊎ ((j : ℕ) → InPartition image i j → (InIndicator image i j → ⊥) → getD (s .cells) j 0 ≡ getD cells j 0)
+    gate : (markedAt image (s .cells) i ≡ true) ⊎ ((j : ℕ) → InPartition image i j → (InIndicator image i j → ⊥) → getD (s .cells) j 0 ≡ getD cells j 0)
     gate =
         ⊎-elim
-        (λ ready. ⊎-elim (λ closed. inl (gate-counted ready closed)) (λ untouched. inr (gate-untouched ready untouched)) (r .safe .gate))
+        (λ ready. ⊎-elim (λ closed. inl (gate-marked ready closed)) (λ untouched. inr (gate-untouched ready untouched)) (r .safe .gate))
         (λ unready. inr (λ j inside other. ap (λ (c : List ℕ). getD c j 0) (r .still unready)))
         ready-or-not
 
@@ -141,7 +141,7 @@ demand-3 image marks i start h calls history =
     let now = afterAll image marks calls start in
     let r : Reached image marks i cells now = reached-all image marks i cells calls start (reached-start image marks i cells start refl h) history in
     record {
-      counted-or-untouched = gate image marks i cells now r;
+      marked-or-untouched = gate image marks i cells now r;
       outside = r .outside;
       as-many = r .quiet .long;
       none-cleared = none-cleared-by image marks i cells now r;

@@ -3,6 +3,7 @@ pub mod Words
 pub mod Secrets
 pub mod HeldKeys
 pub mod Refused
+pub mod Fifteen
 pub mod Demand3
 pub mod Forms
 pub mod Attempts

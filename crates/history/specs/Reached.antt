@@ -40,14 +40,14 @@ module _ (image marks : List ℕ) (i : ℕ) (cells : List ℕ) where
   pub record Reached (s : State) : Type 0 where
     pub quiet : Quiet cells s
     pub outside : (j : ℕ) → Outside image i j → getD (s .cells) j 0 ≡ getD cells j 0
-    pub safe : Safe (part marks) (headerOf image .bound) (part cells) (part (s .cells))
+    pub safe : Safe (part marks) (part cells) (part (s .cells))
     pub still : (Ready image marks i cells → ⊥) → s .cells ≡ cells
 
   pub reached-start : (start : State) → start .cells ≡ cells → keyHeld start ≡ false → Reached start
   reached-start start e h = record {
     quiet = record { long = ap length e; free = h };
     outside = λ j o. ap (λ (c : List ℕ). getD c j 0) e;
-    safe = rw e (safe-start (part marks) (headerOf image .bound) (part cells));
+    safe = rw e (safe-start (part marks) (part cells));
     still = λ unready. e;
   }
 
@@ -64,11 +64,8 @@ module _ (image marks : List ℕ) (i : ℕ) (cells : List ℕ) where
     abbrev software′ : Bool
     software′ = software (entryOf image i)
 
-    abbrev bound : ℕ
-    bound = headerOf image .bound
-
     abbrev runPart : (array : List ℕ) → Ran
-    runPart array = run (part marks) software′ bound k mask (part array)
+    runPart array = run (part marks) software′ k mask (part array)
 
     here : WholeDrive image (s .cells)
     here = whole-at image marks i cells ready s (r .quiet)
@@ -140,7 +137,7 @@ module _ (image marks : List ℕ) (i : ℕ) (cells : List ℕ) where
         by (refuses t _ _ f) = rw (as-lent image marks call s (f s (r .quiet)) .1) (h j l)
         by (runs k mask tell ready st c f) =
             rw (as-lent image marks call s (f s (r .quiet)) .1, part-after ready k mask s r (s .cells) (here ready k mask s r))
-            (filled-kept (part marks) (software (entryOf image i)) (headerOf image .bound) k mask (part (s .cells)) j (getD (part cells) j 0) (h j l))
+            (filled-kept (part marks) (software (entryOf image i)) k mask (part (s .cells)) j (getD (part cells) j 0) (h j l))
 
     -- an uncut attempt that is accepted has gone through its order, and fills them
     went-through : (tell : Answer → Told) (t : Tally) → refusal (tell (answerBy Stopped image i t)) ≡ 15 → (end : End) → (end ≡ CutEnd → ⊥)
@@ -202,5 +199,5 @@ module _ (image marks : List ℕ) (i : ℕ) (cells : List ℕ) where
         by (refuses t l o f) =
             let same = ap refusal (as-lent image marks call s (f s (r .quiet)) .0) in
             let refused : 1 ≤ refusal (told image marks call s) = omega arith in
-            (refused, refused-unchanged image marks s call refused (λ z. o (sym same ∙ z)) ∙ ap (λ (c : List ℕ). withCells c s) (r .still unready))
+            (refused, refused-unchanged image marks s call refused ∙ ap (λ (c : List ℕ). withCells c s) (r .still unready))
         by (runs k mask tell ready st c f) = absurd (unready ready)

@@ -15,14 +15,14 @@ use Rattle.map.specs.Vectors.{two}
 use Rattle.fuse.specs.Fuse.{pairOf, onesOf, burnCell, burnWord}
 use Rattle.partition.specs.declared.State.{State as PartitionState}
 use Rattle.partition.specs.declared.State.the-variants.{Erased, Torn, Programmed}
-use Rattle.partition.specs.Partition.{shortAt, counted, zeroCell, stateOf, lowestShort}
+use Rattle.partition.specs.Partition.{shortAt, marked, zeroCell, stateOf, lowestShort}
 use Rattle.burns.specs.Run.{wordsFrom, order, goesOn, stopsAfter, burnsOf}
 use Rattle.context.specs.State.{State, state}
 use Rattle.cache.specs.Cache.{cacheOf, isAt, emptied}
 use Rattle.drive.specs.Drive.{wholeArrays, surveyAt, slotAt, openSlot, activeSlot, available}
 use Rattle.engine.specs.declared.Order.the-variants.{Nothing, Clear}
 use Rattle.engine.specs.Engine.{zeros}
-use Rattle.erasure.specs.declared.Answer.the-variants.{Ended, Cut, Refused as NotErased}
+use Rattle.erasure.specs.declared.Answer.the-variants.{Ended, Cut}
 use Rattle.erasure.specs.Erasure.{runOn, eraseOf}
 use Rattle.codec.specs.declared.Command.the-variants.{Clkc, Fers, Fsta}
 use Rattle.codec.specs.Fields.{codeOf}
@@ -111,11 +111,11 @@ cases =
     ∷ (seen (stuck 1 0x0F) [] (fers 0xFFFF_FED0 0), row (Replying (Accepted 20 Nothing) (response 0xFFFF_FC04 0 0xFFFF_FFFF)) (slotCells all 0xFFFF_FFF0 all all all all) 60 Erased 0 false)
     -- 4: 59 ones
     ∷ (seen (stuck 1 0x1F) [] (fers 0xFFFF_FED0 0), row (Replying (Accepted 20 Nothing) (response 0xFFFF_FFFF 1 0)) (slotCells all 0xFFFF_FFE0 all all all all) 59 Torn 1 false)
-    -- 5: refusal 15, and what it tells a library caller
-    ∷ (seen (stuck 5 0x1F) [] (fers 0xFFFF_FED0 0), row (Replying (Refused 15) []) (slotCells 1 0 0 0 all 0xFFFF_FFE0) 1 Programmed 3 true)
-    ∷ (seen (stuck 5 0x1F) [] (Erase 0), row (Erasing (NotErased 15 1)) (slotCells 1 0 0 0 all 0xFFFF_FFE0) 1 Programmed 3 true)
-    -- 6: cut at the indicator, 59 bits of it, and 60
-    ∷ (seen noMarks [] (EraseCut 0 0 (low 59)), row (Erasing (Cut 1)) (slotCells 1 0 0 0 all 0x07FF_FFFF) 1 Programmed 3 true)
+    -- 5, by request P4: erased, 1 short, the indicator; and the same by a library call
+    ∷ (seen (stuck 5 0x1F) [] (fers 0xFFFF_FED0 0), row (Replying (Accepted 20 Nothing) (response 0xFFFF_FFFB 1 4)) (slotCells all all all all all 0xFFFF_FFE0) 64 Erased 1 false)
+    ∷ (seen (stuck 5 0x1F) [] (Erase 0), row (Erasing (Ended 1 4 3)) (slotCells all all all all all 0xFFFF_FFE0) 64 Erased 1 false)
+    -- 6, by request P4: cut at the indicator, 59 bits of it, and 60
+    ∷ (seen noMarks [] (EraseCut 0 0 (low 59)), row (Erasing (Cut 1)) (slotCells 1 0 0 0 all 0x07FF_FFFF) 1 Torn 3 false)
     ∷ (seen noMarks [] (EraseCut 0 0 (low 60)), row (Erasing (Cut 1)) (slotCells 1 0 0 0 all 0x0FFF_FFFF) 1 Torn 2 false)
     -- 7: cut at the first data word, and FERS again, as case 2
     ∷ (seen noMarks [] (EraseCut 0 1 0xFFFF_FFFF), row (Erasing (Cut 2)) (slotCells all 0 0 0 all all) 32 Torn 2 false)
@@ -134,6 +134,6 @@ cases =
 -- every call shows what the document says
 table : map (λ (c : Seen × Seen). c .0) cases ≡ map (λ (c : Seen × Seen). c .1) cases
 unfolding cases doneOf requestTests mapGood wholeArrays every headerGood fillerGood entryGood placeGood allBelow u16At u32At activeSlot openSlot slotAt surveyAt
-    stateOf counted shortAt zeroCell countBelow firstFrom onesIn cacheOf isAt emptied runOn eraseOf burnsOf order wordsFrom stopsAfter goesOn burnWord burnCell
+    stateOf marked shortAt zeroCell countBelow firstFrom onesIn cacheOf isAt emptied runOn eraseOf burnsOf order wordsFrom stopsAfter goesOn burnWord burnCell
     lowestShort
 table = refl

@@ -180,6 +180,16 @@ first-is f n k l h o =
     let not-under : ltb r k ≡ false = not-yes (ltb r k) (λ t. let a = ltb-true r k t in false≢true (sym (o r a) ∙ w .at (omega arith))) in
     omega (arith, ltb-false r k not-under, first-least f n k l h)
 
+-- it is below n where the test holds at some number
+pub first-within : (f : ℕ → Bool) (n : ℕ) → (countBelow f n ≡ 0 → ⊥) → firstBelow f n < n
+first-within f n some =
+    let r = firstFrom f 0 n in
+    let w : First f 0 n r = first-tells f 0 n in
+    ⊎-elim
+    (λ (l : ltb r n ≡ true). ltb-true r n l)
+    (λ (l : ltb r n ≡ false). let all : n ≤ r = ltb-false r n l in absurd (some (none-count f n (λ k a. w .before k (omega arith) (omega arith)))))
+    (decided (ltb r n))
+
 -- two tests that agree below n have the same lowest
 same-from : (f g : ℕ → Bool) (i m : ℕ) → ((k : ℕ) → k < i + m → f k ≡ g k) → firstFrom f i m ≡ firstFrom g i m
 unfolding firstFrom

@@ -7,7 +7,7 @@ use native.Mathlib.Nat.{mod-eq-of-lt}
 use native.Mathlib.Numerals.{one-add}
 use lib.Arith.{half-le}
 use lib.Pow.{shr-shr}
-use lib.Bits.{bitAnd, bitOr, bitXor, differ, and-step, or-step, xor-step, or-shr, and-shr, xor-shr, and-comm, and-mask, xor-add-and}
+use lib.Bits.{bitAnd, bitOr, bitXor, differ, and-step, or-step, xor-step, or-zero-r, or-shr, and-shr, xor-shr, and-comm, and-mask, xor-add-and}
 
 -- ---- a number by its digits: what digit i of n is, and two numbers with the same digits are equal
 
@@ -71,6 +71,10 @@ sub-trans p q = digitwise (λ i. omega (arith, at-digit p i, at-digit q i))
 
 pub sub-antisym : {x y : ℕ} → x ⊆ y → y ⊆ x → x ≡ y
 sub-antisym p q = ext _ _ (λ i. omega (arith, at-digit p i, at-digit q i))
+
+-- nothing but 0 lies within 0
+pub sub-none : {x : ℕ} → x ⊆ 0 → x ≡ 0
+sub-none {x} p = sym (or-zero-r x) ∙ p .within
 
 pub sub-or-l : (x y : ℕ) → x ⊆ bitOr x y
 sub-or-l x y = digitwise (λ i. simp bit-or (omega arith))

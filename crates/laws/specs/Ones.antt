@@ -20,6 +20,12 @@ unfolding onesIn
 count-le zero n = omega arith
 count-le (suc k) n = omega (arith, count-le k (n / 2))
 
+-- 0 alone has none
+pub count-zero : (k n : ℕ) → n < 2 ^ k → onesIn k n ≡ 0 → n ≡ 0
+unfolding onesIn
+count-zero zero n h e = lt-one h
+count-zero (suc k) n h e = omega (arith, count-zero k (n / 2) (omega (arith, pow-suc 2 k)) (omega arith))
+
 -- more ones never count less
 count-or : (k x y : ℕ) → onesIn k x ≤ onesIn k (bitOr x y)
 unfolding onesIn

@@ -14,14 +14,13 @@ use Rattle.drive.specs.Drive.{wholeArrays, slotNumber, surveyAt}
 use Rattle.drive.specs.declared.ActiveSlot.{ActiveSlot}
 use Rattle.cache.specs.Cache.{cacheOf, lowestPlace}
 use Rattle.cache.specs.declared.Sought.the-variants.{Empty}
-use Rattle.partition.specs.declared.Survey.{Survey}
 use Rattle.burns.specs.declared.End.{End}
 use Rattle.burns.specs.declared.End.the-variants.{Whole, Stopped, Cut as CutEnd}
 use Rattle.burns.specs.Run.{Tally}
 use Rattle.erasure.specs.declared.Answer.the-variants.{Ended}
 use Rattle.erasure.specs.Erasure.{runOn, never, answerBy}
 use Rattle.erasure.specs.Cuts.{whole-by}
-use Rattle.erasure.specs.Ends.{LeftBy, LeftAs, run-left-as}
+use Rattle.erasure.specs.Ends.{indicatorCell, LeftBy, LeftAs, run-left-as}
 use Rattle.engine.specs.declared.Order.{Order}
 use Rattle.codec.specs.declared.Command.the-variants.{Klod, Fers, Fsta}
 use Rattle.codec.specs.Fields.{known, Place, Short-pairs, First-short, Active-slot, Hek-available, responseFields, numberAt}
@@ -105,27 +104,28 @@ module _ (image marks : List ℕ) (code : ℕ) (request : List ℕ) (room block 
       -- two tests of the drive, one of the buffers, four of the request, then the command's own
       (λ none. by-command (not-false _ (none 0)) (not-false _ (none 1)) (not-false _ (none 3)) (λ k. none (suc (suc (suc (suc (suc (suc (suc k)))))))))
 
--- ---- FERS that ended: its partition is erased where the response has no short pair, torn otherwise
+-- ---- FERS that ended: its partition is erased exactly when the response has no short pair or its first short cell is the indicator's, torn
+-- otherwise
 
 module _ (image marks request : List ℕ) (l : Lent) where
   abbrev p : ℕ
   p = partitionIn request
 
-  -- the short pairs, as a host reads them
-  abbrev shortRead : (response : List ℕ) → ℕ
-  shortRead response = numberAt (responseFields Fers noNumbers) Short-pairs response
+  -- what a host reads of the response: the short pairs and the first short cell
+  abbrev LeftAsRead : (response cells : List ℕ) → Type 0
+  LeftAsRead response cells =
+      let fields = responseFields Fers noNumbers in
+      LeftBy (indicatorCell image p) (numberAt fields Short-pairs response) (numberAt fields First-short response) (surveyAt image cells p)
 
   abbrev FersLeaves : Outcome Effect (List ℕ) → Type 0
-  FersLeaves d =
-      (n : ℕ) (order : Order) → replyOf (d .told) ≡ Accepted n order
-      → LeftBy (shortRead (responseAfter (d .told) (l .response))) (surveyAt image (d .after) p)
+  FersLeaves d = (n : ℕ) (order : Order) → replyOf (d .told) ≡ Accepted n order → LeftAsRead (responseAfter (d .told) (l .response)) (d .after)
 
   refused-not : {A : Type 0} {n m : ℕ} {order : Order} → Refused n ≡ Accepted m order → A
   refused-not e = let z : _≡_ {A = ℕ} 0 1 = cc in absurd (omega arith)
 
-  read-back : (short first burns : ℕ) (left : Survey) → LeftBy short left
-      → LeftBy (shortRead (responseAfter (fersOf (Ended short first burns)) (l .response))) left
-  read-back short first burns left h = subst (λ (n : ℕ). LeftBy n left) (sym (ended-reads short first burns (l .response) .0)) h
+  read-back : (short first burns : ℕ) (cells : List ℕ) → LeftBy (indicatorCell image p) short first (surveyAt image cells p)
+      → LeftAsRead (responseAfter (fersOf (Ended short first burns)) (l .response)) cells
+  read-back short first burns cells h = let read = ended-reads short first burns (l .response) in rw (read .0, read .1) h
 
   by-end : (end : End) (t : Tally) → LeftAs image p (answerBy end image p t) (t .cells)
       → FersLeaves (telling fersOf (outcome (answerBy end image p t) (t .cells)))
@@ -134,7 +134,7 @@ module _ (image marks request : List ℕ) (l : Lent) where
   by-end CutEnd t h n order e = refused-not e
 
   pub fers-leaves : let o = mailboxOf image marks (codeOf Fers) request l in
-      (n : ℕ) (order : Order) → o .told ≡ Accepted n order → LeftBy (shortRead (o .after .response)) (surveyAt image (o .after .state .cells) p)
+      (n : ℕ) (order : Order) → o .told ≡ Accepted n order → LeftAsRead (o .after .response) (o .after .state .cells)
   fers-leaves =
       let s = l .state in
       mailbox-elim image marks (codeOf Fers) request (length (l .response)) (length (l .block)) s FersLeaves

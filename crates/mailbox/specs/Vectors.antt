@@ -12,7 +12,7 @@ use Rattle.context.specs.State.{state, Outcome, outcome}
 use Rattle.map.specs.Map.{headerGood, fillerGood, entryGood, placeGood, mapGood}
 use Rattle.map.specs.Image.{image}
 use Rattle.map.specs.Vectors.{two}
-use Rattle.partition.specs.Partition.{shortAt, counted, zeroCell, stateOf}
+use Rattle.partition.specs.Partition.{shortAt, marked, zeroCell, stateOf}
 use Rattle.drive.specs.Drive.{wholeArrays, surveyAt, slotAt, openSlot, activeSlot}
 use Rattle.cache.specs.Cache.{cacheOf, isAt, placed, emptied}
 use Rattle.engine.specs.Engine.{zeros}
@@ -26,7 +26,7 @@ use Rattle.mailbox.specs.Mailbox.{refused, doneOf, Lent, lent, mailboxOf
 -- a call, by computation: to unfold this is to unfold all that it computes with
 runs : (image marks : List ℕ) (code : ℕ) (request : List ℕ) → Lent → Outcome Reply Lent
 unfolding doneOf requestTests mapGood wholeArrays every headerGood fillerGood entryGood placeGood allBelow u16At u32At activeSlot openSlot
-    slotAt surveyAt stateOf counted shortAt zeroCell countBelow firstFrom onesIn cacheOf isAt placed emptied
+    slotAt surveyAt stateOf marked shortAt zeroCell countBelow firstFrom onesIn cacheOf isAt placed emptied
 runs = mailboxOf
 
 abbrev small : List ℕ

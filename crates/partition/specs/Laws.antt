@@ -10,9 +10,10 @@ use lib.ListN.{getD}
 use lib.Dec.{eqb, ltb}
 use borrow.Author.Tests.{eqb-true, eqb-false, le-leb, leb-true, ltb-true, ltb-false, not-true, eq-eqb, ne-eqb, lt-ltb, le-ltb}
 use Rattle.laws.specs.Tests.{and, decided}
-use Rattle.laws.specs.Below.{count-none, none-count, First, first-tells}
+use Rattle.laws.specs.Below.{count-none, First, first-tells, first-within}
 use Rattle.partition.specs.declared.State.{State}
-use Rattle.partition.specs.Partition.{pairs, shortAt, lowestPair, lowestShort, shortPairs, counted, noData, stateOf, zeroCell}
+use Rattle.partition.specs.Partition.{pairs, indicator, shortAt, lowestPair, lowestShort, shortPairs, shortBesides, SomeShort, counted, marked}
+use Rattle.partition.specs.Partition.{noData, stateOf, zeroCell}
 use Rattle.partition.specs.declared.Lowest.the-variants.{Cell, Nothing}
 use Rattle.partition.specs.declared.State.the-variants.{Erased, Torn, Blank, Programmed}
 
@@ -37,13 +38,13 @@ module _ (bound : ℕ) (part : List ℕ) where
 -- ---- the four states
 
 -- what the tests were, by the state that they give
-Tests : (c s d : Bool) → State → Type 0
-Tests c s d Erased = (c ≡ true) × (s ≡ true)
-Tests c s d Torn = (c ≡ true) × (s ≡ false)
-Tests c s d Blank = (c ≡ false) × (d ≡ true)
-Tests c s d Programmed = (c ≡ false) × (d ≡ false)
+Tests : (m s d : Bool) → State → Type 0
+Tests m s d Erased = (m ≡ true) × (s ≡ true)
+Tests m s d Torn = (m ≡ true) × (s ≡ false)
+Tests m s d Blank = (m ≡ false) × (d ≡ true)
+Tests m s d Programmed = (m ≡ false) × (d ≡ false)
 
-tests : (c s d : Bool) → Tests c s d (cond c (cond s Erased Torn) (cond d Blank Programmed))
+tests : (m s d : Bool) → Tests m s d (cond m (cond s Erased Torn) (cond d Blank Programmed))
 unfolding Tests
 tests true true d = (refl, refl)
 tests true false d = (refl, refl)
@@ -51,53 +52,53 @@ tests false s true = (refl, refl)
 tests false s false = (refl, refl)
 
 module _ (zeroizable : Bool) (bound : ℕ) (part : List ℕ) where
-  pub erased-is : counted zeroizable bound part ≡ true → shortPairs bound part ≡ 0 → stateOf zeroizable bound part ≡ Erased
+  pub erased-is : marked zeroizable part ≡ true → shortBesides bound part ≡ 0 → stateOf zeroizable bound part ≡ Erased
   unfolding stateOf
-  erased-is c s = simp (c, eq-eqb _ _ s)
+  erased-is m s = simp (m, eq-eqb _ _ s)
 
-  pub torn-is : counted zeroizable bound part ≡ true → (shortPairs bound part ≡ 0 → ⊥) → stateOf zeroizable bound part ≡ Torn
+  pub torn-is : marked zeroizable part ≡ true → SomeShort bound part → stateOf zeroizable bound part ≡ Torn
   unfolding stateOf
-  torn-is c s = simp (c, ne-eqb _ _ s)
+  torn-is m s = simp (m, ne-eqb _ _ s)
 
-  pub blank-is : counted zeroizable bound part ≡ false → noData zeroizable part ≡ true → stateOf zeroizable bound part ≡ Blank
+  pub blank-is : marked zeroizable part ≡ false → noData zeroizable part ≡ true → stateOf zeroizable bound part ≡ Blank
   unfolding stateOf
-  blank-is c d = simp (c, d)
+  blank-is m d = simp (m, d)
 
-  pub programmed-is : counted zeroizable bound part ≡ false → noData zeroizable part ≡ false → stateOf zeroizable bound part ≡ Programmed
+  pub programmed-is : marked zeroizable part ≡ false → noData zeroizable part ≡ false → stateOf zeroizable bound part ≡ Programmed
   unfolding stateOf
-  programmed-is c d = simp (c, d)
+  programmed-is m d = simp (m, d)
 
   -- and back: what each state tells
-  told : {state : State} → stateOf zeroizable bound part ≡ state → Tests (counted zeroizable bound part) (eqb (shortPairs bound part) 0) (noData zeroizable part) state
+  told : {state : State} → stateOf zeroizable bound part ≡ state → Tests (marked zeroizable part) (eqb (shortBesides bound part) 0) (noData zeroizable part) state
   unfolding stateOf
-  told e = subst (Tests (counted zeroizable bound part) (eqb (shortPairs bound part) 0) (noData zeroizable part)) e (tests _ _ _)
+  told e = subst (Tests (marked zeroizable part) (eqb (shortBesides bound part) 0) (noData zeroizable part)) e (tests _ _ _)
 
-  pub erased-tells : stateOf zeroizable bound part ≡ Erased → (counted zeroizable bound part ≡ true) × (shortPairs bound part ≡ 0)
+  pub erased-tells : stateOf zeroizable bound part ≡ Erased → (marked zeroizable part ≡ true) × (shortBesides bound part ≡ 0)
   unfolding Tests
   erased-tells e = let t = told e in (t .0, eqb-true _ _ (t .1))
 
-  -- an erased partition has no short pair at all
-  pub erased-whole : stateOf zeroizable bound part ≡ Erased → (j : ℕ) → j < pairs part → shortAt bound part j ≡ false
-  erased-whole e j l = count-none (shortAt bound part) (pairs part) (erased-tells e .1) j l
+  -- an erased partition has no short pair before its indicator
+  pub erased-whole : stateOf zeroizable bound part ≡ Erased → (j : ℕ) → j < indicator part → shortAt bound part j ≡ false
+  erased-whole e j l = count-none (shortAt bound part) (indicator part) (erased-tells e .1) j l
 
-  pub torn-tells : stateOf zeroizable bound part ≡ Torn → (counted zeroizable bound part ≡ true) × (shortPairs bound part ≡ 0 → ⊥)
+  pub torn-tells : stateOf zeroizable bound part ≡ Torn → (marked zeroizable part ≡ true) × SomeShort bound part
   unfolding Tests
   torn-tells e = let t = told e in (t .0, eqb-false _ _ (t .1))
 
-  pub blank-tells : stateOf zeroizable bound part ≡ Blank → (counted zeroizable bound part ≡ false) × (noData zeroizable part ≡ true)
+  pub blank-tells : stateOf zeroizable bound part ≡ Blank → (marked zeroizable part ≡ false) × (noData zeroizable part ≡ true)
   unfolding Tests
   blank-tells e = told e
 
-  pub programmed-tells : stateOf zeroizable bound part ≡ Programmed → (counted zeroizable bound part ≡ false) × (noData zeroizable part ≡ false)
+  pub programmed-tells : stateOf zeroizable bound part ≡ Programmed → (marked zeroizable part ≡ false) × (noData zeroizable part ≡ false)
   unfolding Tests
   programmed-tells e = told e
 
   -- what it is to count as zeroized
-  pub counted-is : zeroizable ≡ true → 1 ≤ pairs part → shortAt bound part (pairs part - 1) ≡ false → counted zeroizable bound part ≡ true
+  pub counted-is : zeroizable ≡ true → 1 ≤ pairs part → shortAt bound part (indicator part) ≡ false → counted zeroizable bound part ≡ true
   unfolding counted
   counted-is z p s = simp (z, le-leb _ _ p, s)
 
-  pub counted-tells : counted zeroizable bound part ≡ true → (zeroizable ≡ true) × (1 ≤ pairs part) × (shortAt bound part (pairs part - 1) ≡ false)
+  pub counted-tells : counted zeroizable bound part ≡ true → (zeroizable ≡ true) × (1 ≤ pairs part) × (shortAt bound part (indicator part) ≡ false)
   unfolding counted
   counted-tells c =
       let last = and _ _ c in
@@ -106,22 +107,19 @@ module _ (zeroizable : Bool) (bound : ℕ) (part : List ℕ) where
 
 -- ---- the lowest short pair
 
-module _ (bound : ℕ) (part : List ℕ) where
-  -- it is there where some pair is short, so in every torn partition
-  pub lowest-within : (shortPairs bound part ≡ 0 → ⊥) → lowestPair bound part < pairs part
-  lowest-within some =
-      let j = lowestPair bound part in
-      let w : First (shortAt bound part) 0 (pairs part) j = first-tells (shortAt bound part) 0 (pairs part) in
-      ⊎-elim
-      (λ (l : ltb j (pairs part) ≡ true). ltb-true j (pairs part) l)
-      (λ (l : ltb j (pairs part) ≡ false).
-      let n : pairs part ≤ j = ltb-false j (pairs part) l in
-      absurd (some (none-count (shortAt bound part) (pairs part) (λ k a. w .before k (omega arith) (omega arith)))))
-      (decided (ltb j (pairs part)))
+-- the answer Cell k is pair j, which is short, and none before it is
+pub record LowestAt (bound : ℕ) (part : List ℕ) (k : ℕ) : Type 0 where
+  pub pair : ℕ
+  pub cell : k ≡ 2 * pair
+  pub within : pair < pairs part
+  pub short-there : shortAt bound part pair ≡ true
+  pub none-before : (i : ℕ) → i < pair → shortAt bound part i ≡ false
 
+module _ (bound : ℕ) (part : List ℕ) where
+  -- it is there where some pair is short
   pub some-lowest : (shortPairs bound part ≡ 0 → ⊥) → lowestShort bound part ≡ Cell (2 * lowestPair bound part)
   unfolding lowestShort
-  some-lowest some = rw (lt-ltb _ _ (lowest-within some))
+  some-lowest some = rw (lt-ltb _ _ (first-within (shortAt bound part) (pairs part) some))
 
   -- and none where none is
   pub no-lowest : shortPairs bound part ≡ 0 → Nothing ≡ lowestShort bound part
@@ -133,15 +131,6 @@ module _ (bound : ℕ) (part : List ℕ) where
       (λ (l : ltb j (pairs part) ≡ false). lowest-none bound part (omega (arith, w .most, ltb-false j (pairs part) l)))
       (decided (ltb j (pairs part)))
 
--- the answer Cell k is pair j, which is short, and none before it is
-pub record LowestAt (bound : ℕ) (part : List ℕ) (k : ℕ) : Type 0 where
-  pub pair : ℕ
-  pub cell : k ≡ 2 * pair
-  pub within : pair < pairs part
-  pub short-there : shortAt bound part pair ≡ true
-  pub none-before : (i : ℕ) → i < pair → shortAt bound part i ≡ false
-
-module _ (bound : ℕ) (part : List ℕ) where
   pub lowest-tells : (k : ℕ) → Cell k ≡ lowestShort bound part → LowestAt bound part k
   unfolding lowestShort
   lowest-tells k e =

@@ -1,3 +1,4 @@
 pub mod Partition
 pub mod Laws
+pub mod Marked
 pub mod Vectors

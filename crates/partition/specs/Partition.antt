@@ -1,4 +1,4 @@
--- Document 01, "Burning and counting", over a partition's cells, counted from where the partition starts. Assumes nothing.
+-- Document 01, "Burning and counting", with request P4, over a partition's cells, counted from where the partition starts. Assumes nothing.
 use Prim.Native.Nat.{ℕ, _+_, _-_, _*_, _/_}
 use mathlib.Core.Path.{_≡_}
 use mathlib.Core.Bool.{Bool, cond, _&&_, not}
@@ -43,9 +43,17 @@ lowestShort bound part = cond (ltb (lowestPair bound part) (pairs part)) (Cell (
 abbrev pub shortsOf : (bound : ℕ) (part : List ℕ) → Shorts
 shortsOf bound part = record { count = shortPairs bound part; lowest = lowestShort bound part }
 
--- "A partition is counted as zeroized when it is zeroizable and its indicator is not short"; the indicator is the last pair
+-- the number of the indicator of a zeroizable partition: it "ends with the indicator pair"
+abbrev pub indicator : (part : List ℕ) → ℕ
+indicator part = pairs part - 1
+
+-- "A partition is counted as zeroized when it is zeroizable and its indicator is not short"
 unfoldable pub counted : (zeroizable : Bool) (bound : ℕ) (part : List ℕ) → Bool
-counted zeroizable bound part = zeroizable && leb 1 (pairs part) && not (shortAt bound part (pairs part - 1))
+counted zeroizable bound part = zeroizable && leb 1 (pairs part) && not (shortAt bound part (indicator part))
+
+-- request P4: "Call a zeroizable partition marked when its indicator has at least one set fuse", so that the pair is not zero
+unfoldable pub marked : (zeroizable : Bool) (part : List ℕ) → Bool
+marked zeroizable part = zeroizable && leb 1 (pairs part) && not (eqb (pairAt part (indicator part)) 0)
 
 -- "A zeroizable partition ends with the indicator pair, before it the digest pair; any other ends with the digest pair": the cells
 -- from the digest on
@@ -64,17 +72,17 @@ zeroCell part k = eqb (getD part k 0) 0
 abbrev pub noData : (zeroizable : Bool) (part : List ℕ) → Bool
 noData zeroizable part = allBelow (zeroCell part) (dataCells zeroizable part)
 
--- the cells whose pairs tell erased from torn, "no pair short" from "some pair short": all of the partition's
-abbrev pub judgedCells : (part : List ℕ) → List ℕ
-judgedCells part = part
+-- how many pairs are short "besides the indicator" (P4): of those before it
+abbrev pub shortBesides : (bound : ℕ) (part : List ℕ) → ℕ
+shortBesides bound part = countBelow (shortAt bound part) (indicator part)
 
--- "Its state is one of four"
+-- "Its state is one of four", as request P4 has them
 unfoldable pub stateOf : (zeroizable : Bool) (bound : ℕ) (part : List ℕ) → State
 stateOf zeroizable bound part =
-    cond (counted zeroizable bound part)
-    -- erased: counted as zeroized, no pair short; torn: counted as zeroized, some pair short
-    (cond (eqb (shortPairs bound (judgedCells part)) 0) Erased Torn)
-    -- blank: not counted, every data cell zero; programmed: not counted, some data fuse set
+    cond (marked zeroizable part)
+    -- "Erased now means marked with no short pair besides the indicator; torn means marked otherwise"
+    (cond (eqb (shortBesides bound part) 0) Erased Torn)
+    -- "blank and programmed mean not marked": "every data cell zero", "some data fuse set"
     (cond (noData zeroizable part) Blank Programmed)
 
 -- a partition's state and short pairs together
@@ -83,12 +91,13 @@ surveyOf zeroizable bound part = record { state = stateOf zeroizable bound part;
 
 -- ---- request P1, "torn also with its first short pair and that pair's ones"
 
--- "some pair short"
+-- some pair besides the indicator is short
 abbrev pub SomeShort : (bound : ℕ) (part : List ℕ) → Type 0
-SomeShort bound part = shortPairs bound (judgedCells part) ≡ 0 → ⊥
+SomeShort bound part = shortBesides bound part ≡ 0 → ⊥
 
--- a torn partition's first short pair, by its first cell, counted from where the partition starts
+-- a torn partition's first short pair, by its first cell, counted from where the partition starts; "P1 passes over the indicator when it
+-- names a short pair" (P4)
 abbrev pub tornPair : (bound : ℕ) (part : List ℕ) → ShortPair
 tornPair bound part =
-    let first : ℕ = lowestPair bound (judgedCells part) in
-    record { cell = 2 * first; ones = onesOf (pairAt (judgedCells part) first) }
+    let first : ℕ = firstBelow (shortAt bound part) (indicator part) in
+    record { cell = 2 * first; ones = onesOf (pairAt part first) }

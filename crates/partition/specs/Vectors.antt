@@ -7,7 +7,7 @@ use mathlib.Core.List.{List, [], _∷_, _++_}
 use lib.ListN.{replicate}
 use lib.Count.{onesIn}
 use Rattle.laws.specs.Below.{allBelow, countBelow, firstFrom}
-use Rattle.partition.specs.Partition.{shortAt, lowestShort, counted, zeroCell, stateOf, surveyOf, tornPair}
+use Rattle.partition.specs.Partition.{shortAt, lowestShort, counted, marked, zeroCell, stateOf, surveyOf, tornPair}
 use Rattle.partition.specs.declared.Lowest.the-variants.{Cell, Nothing}
 use Rattle.partition.specs.declared.State.the-variants.{Erased, Torn, Blank, Programmed}
 
@@ -25,7 +25,7 @@ weakIndicator v = full 31 ++ (v ∷ [])
 
 -- 59 of 64, 1,019 of 1,024 in all: torn, one short pair, the lowest starts at cell 6
 torn-59 : (surveyOf true 60 (weak 0xFFFF_FFE0) ≡ record { state = Torn; short = 1 }) × (lowestShort 60 (weak 0xFFFF_FFE0) ≡ Cell 6)
-unfolding stateOf counted shortAt countBelow lowestShort firstFrom onesIn
+unfolding stateOf marked shortAt countBelow lowestShort firstFrom onesIn
 torn-59 = (refl, refl)
 
 -- request P1: of two short pairs, 59 ones at cell 6 and 33 at cell 12, the first is told, with its ones
@@ -35,20 +35,34 @@ first-of-two = refl
 
 -- 60 of 64: erased
 erased-60 : (surveyOf true 60 (weak 0xFFFF_FFF0) ≡ record { state = Erased; short = 0 }) × (lowestShort 60 (weak 0xFFFF_FFF0) ≡ Nothing)
-unfolding stateOf counted shortAt countBelow lowestShort firstFrom onesIn
+unfolding stateOf marked shortAt countBelow lowestShort firstFrom onesIn
 erased-60 = (refl, refl)
 
--- 59 of 64 in the indicator: not counted as zeroized, so its data make it programmed
-not-counted-59 : (counted true 60 (weakIndicator 0xFFFF_FFE0) ≡ false) × (surveyOf true 60 (weakIndicator 0xFFFF_FFE0) ≡ record { state = Programmed; short = 1 })
-unfolding stateOf counted shortAt countBelow zeroCell allBelow onesIn
-not-counted-59 = (refl, refl)
+-- request P4: 59 of 64 in the indicator alone. It is not counted as zeroized, yet marked, so that it is erased; the indicator is told as
+-- short
+indicator-59 : (counted true 60 (weakIndicator 0xFFFF_FFE0) ≡ false) × (surveyOf true 60 (weakIndicator 0xFFFF_FFE0) ≡ record { state = Erased; short = 1 })
+    × (lowestShort 60 (weakIndicator 0xFFFF_FFE0) ≡ Cell 30)
+unfolding stateOf counted marked shortAt countBelow lowestShort firstFrom onesIn
+indicator-59 = (refl, refl, refl)
 
--- a partition that is not zeroizable never counts, whatever its fuses
-never-counted : surveyOf false 60 (full 6) ≡ record { state = Programmed; short = 0 }
-unfolding stateOf counted shortAt countBelow zeroCell allBelow onesIn
-never-counted = refl
+-- 59 of 64 in pair 3 and in the indicator: torn by pair 3
+both-59 : (surveyOf true 60 (full 7 ++ (0xFFFF_FFE0 ∷ full 23 ++ (0xFFFF_FFE0 ∷ []))) ≡ record { state = Torn; short = 2 })
+    × (tornPair 60 (full 7 ++ (0xFFFF_FFE0 ∷ full 23 ++ (0xFFFF_FFE0 ∷ []))) ≡ record { cell = 6; ones = 59 })
+unfolding stateOf marked shortAt countBelow firstFrom onesIn
+both-59 = (refl, refl)
+
+-- one set fuse marks it, and none does not: a seed and no more is torn, then programmed
+one-fuse : surveyOf true 60 (1 ∷ 0 ∷ 0 ∷ 0 ∷ 0 ∷ 0x8000_0000 ∷ []) ∷ surveyOf true 60 (1 ∷ 0 ∷ 0 ∷ 0 ∷ 0 ∷ 0 ∷ []) ∷ []
+    ≡ record { state = Torn; short = 3 } ∷ record { state = Programmed; short = 3 } ∷ []
+unfolding stateOf marked shortAt countBelow zeroCell allBelow onesIn
+one-fuse = refl
+
+-- a partition that is not zeroizable is never marked, whatever its fuses
+never-marked : surveyOf false 60 (full 6) ≡ record { state = Programmed; short = 0 }
+unfolding stateOf marked shortAt countBelow zeroCell allBelow onesIn
+never-marked = refl
 
 -- digest fuses alone leave a partition blank
 blank-digest : surveyOf true 60 (0 ∷ 0 ∷ 5 ∷ 0 ∷ 0 ∷ 0 ∷ []) ≡ record { state = Blank; short = 3 }
-unfolding stateOf counted shortAt countBelow zeroCell allBelow onesIn
+unfolding stateOf marked shortAt countBelow zeroCell allBelow onesIn
 blank-digest = refl

@@ -1,11 +1,11 @@
-// One partition's cells, from where the partition starts: its short pairs, whether it counts as
-// zeroized, and its state. Each pair is counted whole against the bound; nothing is summed over
+// One partition's cells, from where the partition starts: its short pairs, whether it is marked, and
+// its state. Each pair is counted whole against the bound; nothing is summed over
 // the partition. The definitions are in `specs/Partition`, the laws for callers in `specs/Laws`.
 // It rests on `fuse` and `laws`. Every public function answers for any number of cells.
 ghost use mathlib.Core.Path.{_≡_};
 ghost use Prim.Native.Nat.{_+_, _*_, _<_, _≤_};
 ghost use lib.ListN.{length};
-ghost use Rattle.partition.specs.Partition.{pairAt, shortAt, shortPairs, lowestPair, lowestShort, shortsOf, counted, tail, noData, surveyOf};
+ghost use Rattle.partition.specs.Partition.{pairAt, shortAt, shortPairs, lowestPair, lowestShort, shortsOf, marked, tail, noData, surveyOf};
 ghost use Rattle.partition.specs.Partition.{SomeShort, tornPair};
 
 // The first cell of the lowest short pair, counted from the partition's start.
@@ -115,7 +115,8 @@ pub fn shorts_of(part: &[u32], bound: u64) -> Shorts
     }
 }
 
-// The first short pair among those that a torn partition is judged by.
+// The first short pair among those that a torn partition is judged by. The indicator, which is not one
+// of them, comes last: so the first short pair of all is the first of these.
 pub fn torn_pair(part: &[u32], bound: u64) -> ShortPair
     requires { ⌜ SomeShort bound (now part) ⌝ }
     ensures { λ r. ⌜ r ≡ tornPair bound (now (part .entry)) ⌝ }
@@ -127,10 +128,9 @@ pub fn torn_pair(part: &[u32], bound: u64) -> ShortPair
     }
 }
 
-// Whether a partition counts as zeroized: it is zeroizable and its indicator, the last pair, is not
-// short.
-pub fn is_counted(part: &[u32], bound: u64, zeroizable: bool) -> bool
-    ensures { λ r. ⌜ r ≡ counted zeroizable bound (now (part .entry)) ⌝ }
+// Whether a partition is marked: it is zeroizable and its indicator, the last pair, has a set fuse.
+pub fn is_marked(part: &[u32], zeroizable: bool) -> bool
+    ensures { λ r. ⌜ r ≡ marked zeroizable (now (part .entry)) ⌝ }
 {
     let pairs = part.len() / 2;
     if !zeroizable {
@@ -139,7 +139,7 @@ pub fn is_counted(part: &[u32], bound: u64, zeroizable: bool) -> bool
     if pairs < 1 {
         return false;
     }
-    !short_at(part, pairs - 1, bound)
+    pair_at(part, pairs - 1) != 0
 }
 
 // The cells from the digest on: digest and indicator of a zeroizable partition, the digest of any
@@ -165,14 +165,14 @@ fn no_data(part: &[u32], zeroizable: bool) -> bool
     true
 }
 
-// A partition's state, and its short pairs, which the state's first question counts anyway: all pairs
-// are told, and all tell erased from torn (`judgedCells`).
+// A partition's state, and its short pairs. All pairs are told; all but the indicator, the last, tell
+// erased from torn.
 pub fn survey_cells(part: &[u32], bound: u64, zeroizable: bool) -> Survey
     ensures { λ r. ⌜ r ≡ surveyOf zeroizable bound (now (part .entry)) ⌝ }
 {
     let short = short_pairs(part, bound);
-    if is_counted(part, bound, zeroizable) {
-        if short == 0 {
+    if is_marked(part, zeroizable) {
+        if (short == 0) | ((short == 1) & short_at(part, part.len() / 2 - 1, bound)) {
             return Survey {
                 state: State::Erased,
                 short,

@@ -9,12 +9,12 @@ use native.Mathlib.Omega.{arith}
 use lib.ListN.{length, getD, length-take}
 use borrow.Author.Tests.{ltb-true, ltb-false, lt-ltb, le-ltb, not-true, not-false}
 use Rattle.laws.specs.Tests.{cond-keeps}
-use Rattle.laws.specs.Below.{First, first-tells, first-is, all-at, all-fails, all-holds, fails-at}
+use Rattle.laws.specs.Below.{firstBelow, First, first-tells, first-is, all-at, all-fails, all-holds, fails-at}
 use Rattle.context.specs.Laws.{part-at}
 use Rattle.map.specs.Map.{headerOf, entryOf, slot, mapGood}
 use Rattle.fuse.specs.Fuse.{pairOf, onesOf}
-use Rattle.partition.specs.Partition.{pairs, pairAt, shortAt, lowestPair, judgedCells, tornPair}
-use Rattle.partition.specs.Laws.{lowest-within}
+use Rattle.partition.specs.Partition.{pairs, pairAt, indicator, shortAt, tornPair}
+use Rattle.partition.specs.Marked.{torn-within}
 use Rattle.partition.specs.declared.State.the-variants.{Blank as BlankState, Torn as TornState, Programmed as ProgrammedState}
 use Rattle.drive.specs.Drive.{wholeArrays, cellsOf, activeSlot, available}
 use Rattle.drive.specs.declared.ActiveSlot.{ActiveSlot}
@@ -31,11 +31,11 @@ use Rattle.reason.specs.Laws.{some-short, by-slot}
 abbrev pub pairIn : (image cells : List ℕ) (i j : ℕ) → ℕ
 pairIn image cells i j = let k : ℕ = entryOf image i .first + 2 * j in pairOf (getD cells k 0) (getD cells (k + 1) 0)
 
--- "its first short pair and that pair's ones": among the pairs that a torn slot is judged by, the one that starts at this cell of the
--- whole array has so many ones, which is below the bound, and no pair before it has fewer ones than the bound
+-- "its first short pair and that pair's ones", where "P1 passes over the indicator" (P4): among the pairs before the indicator, the one that
+-- starts at this cell of the whole array has so many ones, which is below the bound, and no pair before it has fewer ones than the bound
 pub record FirstShort (image cells : List ℕ) (i cell ones : ℕ) : Type 0 where
   pub pair : ℕ
-  pub within : pair < pairs (judgedCells (cellsOf image cells i))
+  pub within : pair < indicator (cellsOf image cells i)
   pub cell-is : cell ≡ entryOf image i .first + 2 * pair
   pub ones-are : ones ≡ onesOf (pairIn image cells i pair)
   pub short-there : ones < headerOf image .bound
@@ -90,14 +90,14 @@ module _ (image cells : List ℕ) (i : ℕ) where
   short-pair : Active image cells i TornState → FirstShort image cells i (entryOf image i .first + tornPair bound part .cell) (tornPair bound part .ones)
   unfolding shortAt
   short-pair a =
-      let j = lowestPair bound part in
-      let within = lowest-within bound part (some-short image cells i a) in
-      let w : First (shortAt bound part) 0 (pairs part) j = first-tells (shortAt bound part) 0 (pairs part) in
+      let j = firstBelow (shortAt bound part) (indicator part) in
+      let within = torn-within bound part (some-short image cells i a) in
+      let w : First (shortAt bound part) 0 (indicator part) j = first-tells (shortAt bound part) 0 (indicator part) in
       record {
         pair = j;
         within = within;
         cell-is = refl;
-        ones-are = ap onesOf (pair-in j within);
+        ones-are = ap onesOf (pair-in j (omega (arith, within)));
         short-there = ltb-true _ _ (w .at (omega arith));
         none-before = λ k l. rw (← pair-in k (omega arith)) (ltb-false _ _ (w .before k (omega arith) l));
       }
@@ -106,10 +106,10 @@ module _ (image cells : List ℕ) (i : ℕ) where
   pair-is : {cell ones : ℕ} → FirstShort image cells i cell ones → Torn i cell ones ≡ tornReason image cells i
   unfolding shortAt
   pair-is f =
-      let here = pair-in (f .pair) (f .within) in
+      let here = pair-in (f .pair) (omega (arith, f .within)) in
       let short-there : onesOf (pairAt part (f .pair)) < bound = rw (here, ← f .ones-are) (f .short-there) in
-      let first : lowestPair bound part ≡ f .pair =
-      first-is (shortAt bound part) (pairs part) (f .pair) (f .within) (lt-ltb _ _ short-there)
+      let first : firstBelow (shortAt bound part) (indicator part) ≡ f .pair =
+      first-is (shortAt bound part) (indicator part) (f .pair) (f .within) (lt-ltb _ _ short-there)
       (λ j l. le-ltb (onesOf (pairAt part j)) bound (rw (pair-in j (omega (arith, f .within))) (f .none-before j l))) in
       rw (first, here, f .cell-is, f .ones-are)
 

@@ -14,7 +14,8 @@ use Rattle.fuse.specs.Burn.{ones-most}
 use Rattle.partition.specs.declared.ShortPair.{ShortPair}
 use Rattle.partition.specs.declared.State.the-variants.{Torn as TornState}
 use Rattle.partition.specs.Partition.{SomeShort, tornPair}
-use Rattle.partition.specs.Laws.{torn-tells, lowest-within}
+use Rattle.partition.specs.Laws.{torn-tells}
+use Rattle.partition.specs.Marked.{torn-within}
 use Rattle.drive.specs.Drive.{driveTests, checkOf, cellsOf, surveyAt, activeSlot}
 use Rattle.drive.specs.declared.ActiveSlot.{ActiveSlot}
 use Rattle.drive.specs.declared.ActiveSlot.the-variants.{Torn as TornSlot}
@@ -33,7 +34,7 @@ not-slot image i x is-slot e s = rw (s, e)
 -- ---- a torn slot
 
 module _ (image cells : List ℕ) (i : ℕ) (active : Active image cells i TornState) where
-  -- some pair that it is judged by is short
+  -- some pair besides the indicator is short
   pub some-short : SomeShort (headerOf image .bound) (cellsOf image cells i)
   unfolding surveyAt
   some-short = torn-tells _ _ _ (active .state-is) .1
@@ -45,7 +46,7 @@ module _ (image cells : List ℕ) (i : ℕ) (active : Active image cells i TornS
       let cells-most = map-header image good .cells-most in
       let within = map-entry image good i (active .within) .within in
       let long : length (cellsOf image cells i) ≤ entryOf image i .n = simp length-take (omega arith) in
-      (omega (arith, lowest-within _ _ some-short), ones-most _)
+      (omega (arith, torn-within _ _ some-short), ones-most _)
 
   module _ {header : Header} {part : List ℕ} (h : header ≡ headerOf image) (p : part ≡ cellsOf image cells i) where
     pub some-here : SomeShort (header .bound) part

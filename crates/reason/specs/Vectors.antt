@@ -10,7 +10,7 @@ use Rattle.endian.specs.Endian.{u16At}
 use Rattle.map.specs.Map.{headerGood, fillerGood, entryGood, placeGood, mapGood}
 use Rattle.map.specs.Image.{image, entry}
 use Rattle.map.specs.Vectors.{one, two}
-use Rattle.partition.specs.Partition.{shortAt, counted, zeroCell, stateOf}
+use Rattle.partition.specs.Partition.{shortAt, marked, zeroCell, stateOf}
 use Rattle.drive.specs.Drive.{wholeArrays, surveyAt, slotAt, openSlot, activeSlot}
 use Rattle.drive.specs.Vectors.{erased, torn, blank, programmed}
 use Rattle.reason.specs.declared.Reason.{Reason}
@@ -32,7 +32,7 @@ cases :
     ∷ (0xFFFF_FFFF ∷ 0xFFFF_FFFF ∷ 0xFFFF_FFFF ∷ 0xFFFF_FFE0 ∷ 0xFFFF_FFFF ∷ 0xFFFF_FFFF ∷ [])
     ∷ [])
     ≡ Available ∷ Blank 0 ∷ AllErased ∷ Torn 0 0 59 ∷ Torn 0 0 1 ∷ Torn 0 2 59 ∷ []
-unfolding reasonIn notSlot activeSlot openSlot slotAt surveyAt stateOf counted shortAt zeroCell mapGood wholeArrays every headerGood fillerGood entryGood
+unfolding reasonIn notSlot activeSlot openSlot slotAt surveyAt stateOf marked shortAt zeroCell mapGood wholeArrays every headerGood fillerGood entryGood
     placeGood allBelow countBelow firstFrom u16At onesIn
 cases = refl
 
@@ -44,7 +44,7 @@ slots :
     twoSlots erased torn ∷ twoSlots torn programmed ∷ twoSlots erased blank ∷ twoSlots erased programmed ∷ twoSlots erased erased
     ∷ reasonOf (one (entry 0 6 0 3)) (replicate 12 0) (replicate 12 0) ∷ []
     ≡ Torn 1 6 59 ∷ Torn 0 0 59 ∷ Blank 1 ∷ Available ∷ AllErased ∷ NoSlot ∷ []
-unfolding reasonIn notSlot activeSlot openSlot slotAt surveyAt stateOf counted shortAt zeroCell mapGood wholeArrays every headerGood fillerGood entryGood
+unfolding reasonIn notSlot activeSlot openSlot slotAt surveyAt stateOf marked shortAt zeroCell mapGood wholeArrays every headerGood fillerGood entryGood
     placeGood allBelow countBelow firstFrom u16At onesIn
 slots = refl
 

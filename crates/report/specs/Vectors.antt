@@ -13,7 +13,7 @@ use Rattle.map.specs.Vectors.{two}
 use Rattle.plan.specs.Vectors.{lines}
 use Rattle.plan.specs.Reading.{readOf, hasForm, planOf}
 use Rattle.plan.specs.Writing.{imageOf as planImage}
-use Rattle.partition.specs.Partition.{shortAt, counted, zeroCell, stateOf}
+use Rattle.partition.specs.Partition.{shortAt, marked, zeroCell, stateOf}
 use Rattle.drive.specs.Drive.{surveyAt, slotAt, openSlot, activeSlot}
 use Rattle.reason.specs.Reason.{notSlot, reasonIn}
 use Rattle.text.specs.Text.{text, decimal}
@@ -27,7 +27,7 @@ abbrev small : List ℕ
 small = (24 ∷ 0 ∷ image 2 12 60 8 [] two) ++ (1 ∷ replicate 95 0)
 
 small-drive : reportOf Status small ≡ onOutput (text "part cells state short\n0 6 programmed 3\n1 6 blank 3\nhek 0\n")
-unfolding readingOf tableOf lineAt lineOf hekLine numberAt decimal surveyAt slotAt openSlot activeSlot stateOf counted shortAt zeroCell
+unfolding readingOf tableOf lineAt lineOf hekLine numberAt decimal surveyAt slotAt openSlot activeSlot stateOf marked shortAt zeroCell
     mapGood every headerGood fillerGood entryGood placeGood allBelow countBelow firstFrom joinBelow u16At u32At onesIn
 small-drive = refl
 
@@ -43,7 +43,7 @@ reasons :
     ∷ text "hek none: the active slot, partition 0, is torn: the pair at cell 0 has 59 of 64 fuses set, at least 60 are needed\n"
     ∷ text "hek none: every slot is erased\n"
     ∷ [])
-unfolding readingOf whyLine pairWords reasonIn notSlot numberAt decimal surveyAt slotAt openSlot activeSlot stateOf counted shortAt zeroCell
+unfolding readingOf whyLine pairWords reasonIn notSlot numberAt decimal surveyAt slotAt openSlot activeSlot stateOf marked shortAt zeroCell
     mapGood every headerGood fillerGood entryGood placeGood allBelow countBelow firstFrom joinBelow u16At u32At onesIn
 reasons = refl
 

@@ -10,7 +10,7 @@ use Rattle.context.specs.State.{Outcome, outcome, refusing}
 use Rattle.endian.specs.Endian.{u16At}
 use Rattle.map.specs.Map.{headerGood, fillerGood, entryGood, placeGood, mapGood}
 use Rattle.map.specs.Image.{image, entry}
-use Rattle.partition.specs.Partition.{shortAt, counted, zeroCell, stateOf}
+use Rattle.partition.specs.Partition.{shortAt, marked, zeroCell, stateOf}
 use Rattle.drive.specs.Drive.{wholeArrays, surveyAt}
 use Rattle.drive.specs.Vectors.{erased, torn, blank, programmed}
 use Rattle.states.specs.declared.Listing.{Listing}
@@ -31,7 +31,7 @@ listed image cells marks = listingOf image cells marks lent
 four-states :
     listed fourSlots (programmed ++ erased ++ torn ++ blank) (replicate 24 0)
     ≡ outcome (Listed 4) (lists (3 ∷ 0 ∷ 1 ∷ 2 ∷ 9 ∷ []) (3 ∷ 0 ∷ 1 ∷ 3 ∷ 8 ∷ []))
-unfolding stateIn shortIn surveyAt stateOf counted shortAt zeroCell mapGood wholeArrays every headerGood fillerGood entryGood placeGood allBelow countBelow joinBelow u16At onesIn
+unfolding stateIn shortIn surveyAt stateOf marked shortAt zeroCell mapGood wholeArrays every headerGood fillerGood entryGood placeGood allBelow countBelow joinBelow u16At onesIn
 four-states = refl
 
 -- 1 before 2, and nothing is listed

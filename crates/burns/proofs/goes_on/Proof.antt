@@ -4,12 +4,12 @@ use borrow.Author.Needs.{needs}
 use Rattle.burns.proofs.goes_on.Statement.{statement}
 use Rattle.burns.proofs.goes_on.Tie as tie
 
-is-counted-requires : tie.Need-is-counted-requires
-is-counted-requires c κs = search needs
+is-marked-requires : tie.Need-is-marked-requires
+is-marked-requires c κs = search needs
 
 returns : tie.Need-returns
 unfolding goesOn
-returns c = c .is-counted .ensures
+returns c = c .is-marked .ensures
 
 pub goes-on-spec : {M : Type 1} → statement M
-goes-on-spec = tie.close (tie.spec is-counted-requires returns)
+goes-on-spec = tie.close (tie.spec is-marked-requires returns)

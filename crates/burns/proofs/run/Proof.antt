@@ -10,16 +10,16 @@ use Rattle.burns.proofs.run.Statement.{statement}
 use Rattle.burns.proofs.run.Tie as tie
 
 abbrev Inv-loop : tie.InvT-loop
-Inv-loop cells₀ marks software bound k mask n count burns₀ cells burns = Running marks software bound k mask cells₀ (tallyOf cells burns)
+Inv-loop cells₀ marks software k mask n count burns₀ cells burns = Running marks software k mask cells₀ (tallyOf cells burns)
 
 abbrev μ-loop : tie.MeasureT-loop
-μ-loop cells₀ marks software bound k mask n count burns₀ cells burns = count - burns
+μ-loop cells₀ marks software k mask n count burns₀ cells burns = count - burns
 
 burn-count-requires : tie.Need-burn-count-requires Inv-loop μ-loop
 burn-count-requires c κs = search needs
 
 loop-holds : tie.Need-loop-holds Inv-loop μ-loop
-loop-holds c = running-start _ _ _ _ _ _
+loop-holds c = running-start _ _ _ _ _
 
 word-at-requires : tie.Need-word-at-requires Inv-loop μ-loop
 word-at-requires c κs = search needs
@@ -27,8 +27,8 @@ word-at-requires c κs = search needs
 burn-word-requires : tie.Need-burn-word-requires Inv-loop μ-loop
 burn-word-requires c κs = search needs
 
-add-t16 : tie.Need-add-t16 Inv-loop μ-loop
-add-t16 c = search needs
+add-t15 : tie.Need-add-t15 Inv-loop μ-loop
+add-t15 c = search needs
 
 same-length : tie.Need-same-length Inv-loop μ-loop
 same-length c = search needs
@@ -79,7 +79,7 @@ run-spec =
     loop-holds
     word-at-requires
     burn-word-requires
-    add-t16
+    add-t15
     same-length
     returns
     burn-word-requires-2

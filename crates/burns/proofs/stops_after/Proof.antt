@@ -10,10 +10,10 @@ goes-on-requires : tie.Need-goes-on-requires
 goes-on-requires c κs = search needs
 
 returns : tie.Need-returns
-returns c = ap not (c .goes-on .ensures) ∙ stops-first _ _ _ (c .before .if1 .taken)
+returns c = ap not (c .goes-on .ensures) ∙ stops-first _ _ (c .before .if1 .taken)
 
 returns-2 : tie.Need-returns-2
-returns-2 c = stops-later _ _ _ (c .if1 .left)
+returns-2 c = stops-later _ _ (c .if1 .left)
 
 pub stops-after-spec : {M : Type 1} → statement M
 stops-after-spec = tie.close (tie.spec goes-on-requires returns returns-2)

@@ -27,7 +27,7 @@ may : (c : tie.Else1)
     forbidden (Write (a .cell) (a .value)) (a .image .now) (a .cells .now) (w .0) (w .1 .0) (w .1 .1 .0) ≡ false
 may c =
     sym (write-forbidden _ _ (c .before .before .before .read-entry .ensures) _ _ _ _ _ (c .before .before .is-data .ensures)
-    (c .before .before .before .before .counted-at .ensures)) ∙ c .if1 .left
+    (c .before .before .before .before .marked-at .ensures)) ∙ c .if1 .left
 
 keeps : (c : tie.Else2)
     → let found = found-before (c .before .before .before) in
@@ -50,8 +50,8 @@ enum-known-partition c = search needs
 is-slot-in-use-requires : tie.Need-is-slot-in-use-requires
 is-slot-in-use-requires c κs = search needs
 
-counted-at-requires : tie.Need-counted-at-requires
-counted-at-requires c κs =
+marked-at-requires : tie.Need-marked-at-requires
+marked-at-requires c κs =
     let found = c .before .before .before in
     let n = named _ _ _ _ (at-word found) in
     (n .whole, n .partition)
@@ -69,7 +69,7 @@ returns : tie.Need-returns
 returns c =
     let found = c .before .before .before .before .before .before .before .before in
     let forbidden = sym (write-forbidden _ _ (c .before .before .before .read-entry .ensures) _ _ _ _ _ (c .before .before .is-data .ensures)
-    (c .before .before .before .before .counted-at .ensures)) ∙ c .if1 .taken in
+    (c .before .before .before .before .marked-at .ensures)) ∙ c .if1 .taken in
     word-at _ _ _ _ (at-word found) 0 tt forbidden
 
 word-of-requires : tie.Need-word-of-requires
@@ -139,7 +139,7 @@ write-spec =
     enum-known-number
     enum-known-partition
     is-slot-in-use-requires
-    counted-at-requires
+    marked-at-requires
     read-entry-requires
     is-data-requires
     same-length

@@ -4,9 +4,6 @@ use borrow.Author.Needs.{needs}
 use Rattle.erasure.proofs.run_on.Statement.{statement}
 use Rattle.erasure.proofs.run_on.Tie as tie
 
-read-header-requires : tie.Need-read-header-requires
-read-header-requires c κs = search needs
-
 read-entry-requires : tie.Need-read-entry-requires
 read-entry-requires c κs = search needs
 
@@ -29,7 +26,7 @@ part-run-start : tie.Need-part-run-start
 part-run-start c = search needs
 
 part-run-end : tie.Need-part-run-end
-part-run-end c = cells-end _ _ _ _ (c .before .before .before .before .before .before .before .pre) (c .before .before .read-entry .ensures)
+part-run-end c = cells-end _ _ _ _ (c .before .before .before .before .before .before .pre) (c .before .before .read-entry .ensures)
 
 cast-run-2 : tie.Need-cast-run-2
 cast-run-2 c = search needs
@@ -47,30 +44,27 @@ part-run-start-2 : tie.Need-part-run-start-2
 part-run-start-2 c = search needs
 
 part-run-end-2 : tie.Need-part-run-end-2
-part-run-end-2 c = marks-end _ _ _ _ (c .before .before .before .before .before .before .before .before .before .pre) (c .before .before .before .before .read-entry .ensures)
+part-run-end-2 c = marks-end _ _ _ _ (c .before .before .before .before .before .before .before .before .pre) (c .before .before .before .before .read-entry .ensures)
 
 is-software-requires : tie.Need-is-software-requires
 is-software-requires c κs = search needs
 
-cast-run-3 : tie.Need-cast-run-3
-cast-run-3 c = search needs
-
 run-requires : tie.Need-run-requires
-run-requires c κs = fits-run _ _ _ _ (c .before .before .before .before .before .before .before .before .before .before .before .before .pre) (c .before .before .before .before .before .before .before .read-entry .ensures)
+run-requires c κs = fits-run _ _ _ _ (c .before .before .before .before .before .before .before .before .before .before .pre) (c .before .before .before .before .before .before .read-entry .ensures)
 
 same-length : tie.Need-same-length
 same-length c = search needs
 
 returns : tie.Need-returns
-returns c = let ok = c .before .before .before .before .before .before .before .before .before .before .before .before .before .before .before .pre in
-    let e = c .before .before .before .before .before .before .before .before .before .before .read-entry .ensures in
-    (ran-on _ _ _ _ ok e (c .before .before .before .before .before .before .before .before .before .before .before .read-header .ensures) (c .before .before .before .before .is-software .ensures) _ _ (c .before .before .run .ensures .0), burns-fit _ _ _ _ ok e (c .before .before .run .ensures .1))
+returns c =
+    let ok = c .before .before .before .before .before .before .before .before .before .before .before .before .before .pre in
+    let e = c .before .before .before .before .before .before .before .before .before .read-entry .ensures in
+    (ran-on _ _ _ _ ok e (c .before .before .before .is-software .ensures) _ _ (c .before .before .run .ensures .0), burns-fit _ _ _ _ ok e (c .before .before .run .ensures .1))
 
 pub run-on-spec : {M : Type 1} → statement M
 run-on-spec =
     tie.close
     (tie.spec
-    read-header-requires
     read-entry-requires
     cast-first
     cast-run
@@ -86,7 +80,6 @@ run-on-spec =
     part-run-start-2
     part-run-end-2
     is-software-requires
-    cast-run-3
     run-requires
     same-length
     returns)

@@ -1,9 +1,10 @@
--- `partition::torn_pair` meets its contract: where some pair is short, the lowest short pair lies in the partition. Assumes nothing.
+-- `partition::torn_pair` meets its contract: where some pair besides the indicator is short, the lowest of all is one of these. Assumes
+-- nothing.
 use Prim.Native.Nat.{_+_, _*_, _<_}
 use native.Mathlib.Omega.{arith}
 use lib.ListN.{length}
 use borrow.Author.Needs.{needs}
-use Rattle.partition.specs.Laws.{lowest-within}
+use Rattle.partition.specs.Marked.{torn-within, torn-first}
 use Rattle.partition.proofs.torn_pair.Statement.{statement}
 use Rattle.partition.proofs.torn_pair.Tie as tie
 
@@ -13,7 +14,9 @@ lowest-pair-requires c κs = search needs
 within : (c : tie.After-lowest-pair) → 2 * c .lowest-pair .result + 1 < length (c .before .before .args .part .now)
 within c =
     let start = c .before .before in
-    omega (arith, c .lowest-pair .ensures, lowest-within (start .args .bound) (start .args .part .now) (start .pre))
+    let bound = start .args .bound in
+    let part = start .args .part .now in
+    omega (arith, c .lowest-pair .ensures, torn-first bound part (start .pre), torn-within bound part (start .pre))
 
 mul-t4 : tie.Need-mul-t4
 mul-t4 c = omega (arith, within c)
@@ -25,7 +28,9 @@ ones-requires : tie.Need-ones-requires
 ones-requires c κs = search needs
 
 returns : tie.Need-returns
-returns c = rw (c .ones .ensures, c .before .pair-at .ensures, c .before .before .lowest-pair .ensures)
+returns c =
+    let start = c .before .before .before .before in
+    rw (c .ones .ensures, c .before .pair-at .ensures, c .before .before .lowest-pair .ensures, torn-first (start .args .bound) (start .args .part .now) (start .pre))
 
 pub torn-pair-spec : {M : Type 1} → statement M
 torn-pair-spec =
