@@ -114,7 +114,6 @@ module _ (image cells : List ℕ) (i : ℕ) (terms : Terms) (part : List ℕ) (t
   unfolding markedAt
   marked-here r q = cc
 
-
 -- a partition has at most 1,024 pairs, short or not
 module _ (image cells : List ℕ) (good : mapGood image ≡ true) (i : ℕ) (l : i < headerOf image .partitions) where
   pub shorts-most : (bound : ℕ) → shortPairs bound (cellsOf image cells i) ≤ 1024

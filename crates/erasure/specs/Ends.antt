@@ -121,18 +121,17 @@ module _ (image cells marks : List ℕ) (i k mask : ℕ) (whole : WholeDrive ima
   unfolding runOn
   stops-exactly first =
       let in-part = stopped-exactly (part marks) (software (entryOf image i)) k mask (part cells) (omega (arith, four)) even first in
-      let x = entryOf image i in
-      (
+      let x = entryOf image i in (
         (λ e j a b.
-        let from : x .first ≤ j = omega (arith, least) in
-        ap₂ (λ (cell stuck : ℕ). bitOr cell (free stuck)) (sym (array-at image cells i j from b)) (sym (array-at image marks i j from b))
-        ∙ in-part .0 e (j - x .first) (omega (arith, long)) (omega (arith, long))),
+            let from : x .first ≤ j = omega (arith, least) in
+            ap₂ (λ (cell stuck : ℕ). bitOr cell (free stuck)) (sym (array-at image cells i j from b)) (sym (array-at image marks i j from b))
+            ∙ in-part .0 e (j - x .first) (omega (arith, long)) (omega (arith, long))),
         λ none. in-part .1
-        (λ j a b.
-        let back : x .first + j - x .first ≡ j = omega arith in
-        let here : (array : List ℕ) → getD (part array) j 0 ≡ getD array (x .first + j) 0 =
-        λ array. ap (λ (at : ℕ). getD (part array) at 0) (sym back) ∙ array-at image array i (x .first + j) (omega arith) (omega (arith, long, b)) in
-        ap₂ (λ (cell stuck : ℕ). bitOr cell (free stuck)) (here cells) (here marks) ∙ none (x .first + j) (omega (arith, long)) (omega (arith, long, b))),
+            (λ j a b.
+            let back : x .first + j - x .first ≡ j = omega arith in
+            let here : (array : List ℕ) → getD (part array) j 0 ≡ getD array (x .first + j) 0 =
+            λ array. ap (λ (at : ℕ). getD (part array) at 0) (sym back) ∙ array-at image array i (x .first + j) (omega arith) (omega (arith, long, b)) in
+            ap₂ (λ (cell stuck : ℕ). bitOr cell (free stuck)) (here cells) (here marks) ∙ none (x .first + j) (omega (arith, long)) (omega (arith, long, b))),
       )
 
   -- and then leaves every cell as it was

@@ -3,7 +3,7 @@
 // the array, cut or not. `erase`, `erase_cut` and `restart` are the entry points: they answer for any
 // bytes and any lengths. `erase_judged` serves FERS too. The definitions are in `specs/Erasure`, the laws
 // in `specs/Laws`, what a run leaves of the whole array in `specs/Parts`, what holds of cuts in
-// `specs/Cuts`, what an ended erasure leaves in `specs/Ends`. It rests on `burns`, `drive`, `cache`,
+// `specs/Cuts`, what an answer says of the partition in `specs/Ends`. It rests on `burns`, `drive`, `cache`,
 // `context` and what lies below them.
 use burns::End;
 use burns::Report;
@@ -21,9 +21,9 @@ ghost use Rattle.context.specs.State.{state, outcome};
 ghost use Rattle.erasure.specs.Erasure.{partitionTests, Erasable, runOn, firstShort, answerBy, ranOf, refusalBy, isCut, uncutOf, erasureOf, cutErasureOf};
 
 // What an erasure answers: that it ended, its short pairs, the first cell of the lowest one (0xFFFFFFFF
-// if none) and the burns carried out; the partition is then erased only if no pair is short. Or that it
-// was cut, and the burns carried out. Or the refusal's number, and the burns carried out, none but the
-// indicator's of refusal 15.
+// if none) and the burns carried out; the partition is then erased exactly if no pair is short or the
+// first short cell is the indicator's, else torn. Or that it was cut, and the burns carried out. Or the
+// refusal's number, and the burns carried out, none but the indicator's of refusal 15, which set nothing.
 pub enum Answer {
     Ended { short: u32, first: u32, burns: u32 },
     Cut { burns: u32 },

@@ -241,7 +241,7 @@ module _ (image marks : List ℕ) (code : ℕ) (request : List ℕ) (l : Lent) {
       (λ n _ _. refl)
       (λ none. accepted-refuses (commandOf code) image marks request (l .state) (not-false _ (none 3))))
 
-  -- a refusal leaves everything as it was, but for the cells that FERS has burned before 15
+  -- a refusal leaves everything but the cells as it was, and these as its effect has them: with 15 FERS has burned, though it set nothing
   pub refused-left : (e .refusal ≡ 0 → ⊥) → outcome (Refused (e .refusal)) (lent (withCells cells (l .state)) (l .response) (l .block)) ≡ mailboxOf image marks code request l
   refused-left o = still (e .refusal) o cells request l ∙ ap (λ (x : Effect). writtenOut request l (outcome x cells)) (sym (is-refused o)) ∙ ap (writtenOut request l) d
 

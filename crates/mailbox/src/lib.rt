@@ -1,7 +1,7 @@
 // The mailbox: a code and a request go in; out come a reply with the engine's order, the engine block, a
 // response that is written straight into the lent buffer, and the fuses and the context as the command
 // leaves them. A call is judged and its effect found, for FERS by its erasure; then it is written out
-// unless it is refused: a refusal changes nothing, but for the indicator that 15 leaves burned. `call`
+// unless it is refused: a refusal changes nothing, 15 of FERS too, whose burn has set no fuse. `call`
 // answers for any bytes and any lengths. The definitions are in `specs/Mailbox`, the laws in `specs/Laws`
 // and `specs/Told`. It rests on `codec`, `engine`, `erasure` and what lies below them.
 use cache::Sought;

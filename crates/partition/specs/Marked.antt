@@ -140,12 +140,12 @@ module _ (zeroizable : Bool) (bound : ℕ) (part : List ℕ) where
     pub erased-exactly : (stateOf zeroizable bound part ≡ Erased) ↔ ((shortPairs bound part ≡ 0) ⊎ (lowestShort bound part ≡ Cell (2 * indicator part)))
     erased-exactly = (
       (λ e. let rest = erased-tells zeroizable bound part e .1 in
-      ⊎-elim
-      (λ (y : shortAt bound part (indicator part) ≡ true). inr (alone rest y))
-      (λ (o : shortAt bound part (indicator part) ≡ false). inl (shorts-split bound part some ∙ rw (rest, o)))
-      (decided (shortAt bound part (indicator part)))),
+          ⊎-elim
+          (λ (y : shortAt bound part (indicator part) ≡ true). inr (alone rest y))
+          (λ (o : shortAt bound part (indicator part) ≡ false). inl (shorts-split bound part some ∙ rw (rest, o)))
+          (decided (shortAt bound part (indicator part)))),
       λ told. erased-is zeroizable bound part m
-      (⊎-elim (λ (none : shortPairs bound part ≡ 0). omega (arith, shorts-split bound part some, none)) before told),
+          (⊎-elim (λ (none : shortPairs bound part ≡ 0). omega (arith, shorts-split bound part some, none)) before told),
     )
       where
         alone : shortBesides bound part ≡ 0 → shortAt bound part (indicator part) ≡ true → lowestShort bound part ≡ Cell (2 * indicator part)

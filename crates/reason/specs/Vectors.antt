@@ -21,17 +21,19 @@ use Rattle.reason.specs.Reason.{notSlot, reasonIn, reasonOf}
 abbrev small : (slot : List ℕ) → Reason
 small slot = reasonOf (image 2 12 60 8 [] two) (slot ++ replicate 6 0) (replicate 12 0)
 
--- as it stands; new; after case 2; after case 4; after case 6 with the low 60 bits, its indicator at 60; at 59 in its digest alone
+-- as it stands; new; after case 2; after case 4; after case 5, its indicator at 59; after case 6 with the low 59 bits; at 59 in its digest
+-- and its indicator
 cases :
     map small
     (programmed
     ∷ blank
     ∷ erased
     ∷ (0xFFFF_FFFF ∷ 0xFFFF_FFE0 ∷ replicate 4 0xFFFF_FFFF)
-    ∷ (1 ∷ 0 ∷ 0 ∷ 0 ∷ 0xFFFF_FFFF ∷ 0x0FFF_FFFF ∷ [])
-    ∷ (0xFFFF_FFFF ∷ 0xFFFF_FFFF ∷ 0xFFFF_FFFF ∷ 0xFFFF_FFE0 ∷ 0xFFFF_FFFF ∷ 0xFFFF_FFFF ∷ [])
+    ∷ (replicate 5 0xFFFF_FFFF ++ (0xFFFF_FFE0 ∷ []))
+    ∷ (1 ∷ 0 ∷ 0 ∷ 0 ∷ 0xFFFF_FFFF ∷ 0x07FF_FFFF ∷ [])
+    ∷ (0xFFFF_FFFF ∷ 0xFFFF_FFFF ∷ 0xFFFF_FFFF ∷ 0xFFFF_FFE0 ∷ 0xFFFF_FFFF ∷ 0xFFFF_FFE0 ∷ [])
     ∷ [])
-    ≡ Available ∷ Blank 0 ∷ AllErased ∷ Torn 0 0 59 ∷ Torn 0 0 1 ∷ Torn 0 2 59 ∷ []
+    ≡ Available ∷ Blank 0 ∷ AllErased ∷ Torn 0 0 59 ∷ AllErased ∷ Torn 0 0 1 ∷ Torn 0 2 59 ∷ []
 unfolding reasonIn notSlot activeSlot openSlot slotAt surveyAt stateOf marked shortAt zeroCell mapGood wholeArrays every headerGood fillerGood entryGood
     placeGood allBelow countBelow firstFrom u16At onesIn
 cases = refl

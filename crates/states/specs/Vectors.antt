@@ -12,7 +12,7 @@ use Rattle.map.specs.Map.{headerGood, fillerGood, entryGood, placeGood, mapGood
 use Rattle.map.specs.Image.{image, entry}
 use Rattle.partition.specs.Partition.{shortAt, marked, zeroCell, stateOf}
 use Rattle.drive.specs.Drive.{wholeArrays, surveyAt}
-use Rattle.drive.specs.Vectors.{erased, torn, blank, programmed}
+use Rattle.drive.specs.Vectors.{torn, blank, programmed}
 use Rattle.states.specs.declared.Listing.{Listing}
 use Rattle.states.specs.declared.Listing.the-variants.{Listed, Refused}
 use Rattle.states.specs.States.{stateIn, shortIn, Lists, lists, listingOf}
@@ -27,10 +27,11 @@ lent = lists (replicate 5 9) (replicate 5 8)
 abbrev listed : (image cells marks : List ℕ) → Outcome Listing Lists
 listed image cells marks = listingOf image cells marks lent
 
--- programmed, erased, torn at 59, blank: the numbers of the states, and 3, 0, 1, 3 short pairs; a place past the fourth keeps its number
+-- programmed, erased with a short indicator, torn at 59, blank: the numbers of the states, and 3, 1, 1, 3 short pairs; a place past the
+-- fourth keeps its number
 four-states :
-    listed fourSlots (programmed ++ erased ++ torn ++ blank) (replicate 24 0)
-    ≡ outcome (Listed 4) (lists (3 ∷ 0 ∷ 1 ∷ 2 ∷ 9 ∷ []) (3 ∷ 0 ∷ 1 ∷ 3 ∷ 8 ∷ []))
+    listed fourSlots (programmed ++ (replicate 5 0xFFFF_FFFF ++ (0xFFFF_FFE0 ∷ [])) ++ torn ++ blank) (replicate 24 0)
+    ≡ outcome (Listed 4) (lists (3 ∷ 0 ∷ 1 ∷ 2 ∷ 9 ∷ []) (3 ∷ 1 ∷ 1 ∷ 3 ∷ 8 ∷ []))
 unfolding stateIn shortIn surveyAt stateOf marked shortAt zeroCell mapGood wholeArrays every headerGood fillerGood entryGood placeGood allBelow countBelow joinBelow u16At onesIn
 four-states = refl
 
