@@ -1,16 +1,18 @@
 -- The laws of a partition's pairs and states: first what the proofs cite, then what callers cite in place of the definitions' text.
 -- Assumes nothing.
-use Prim.Native.Nat.{ℕ, _-_, _*_, _≤_, _<_}
+use Prim.Native.Nat.{ℕ, _+_, _*_, _^_, _≤_, _<_}
 use mathlib.Core.Logic.{⊎-elim}
 use mathlib.Core.Path.{_≡_, refl, sym, subst, _∙_}
 use mathlib.Core.Bool.{Bool, true, false, cond, false≢true}
 use mathlib.Core.List.{List}
 use native.Mathlib.Omega.{arith}
-use lib.ListN.{getD}
+use lib.ListN.{length, getD}
 use lib.Dec.{eqb, ltb}
 use borrow.Author.Tests.{eqb-true, eqb-false, le-leb, leb-true, ltb-true, ltb-false, not-true, eq-eqb, ne-eqb, lt-ltb, le-ltb}
-use Rattle.laws.specs.Tests.{and, decided}
+use Rattle.laws.specs.Tests.{and, decided, not-yes}
+use Rattle.laws.specs.Bits.{_⊆_}
 use Rattle.laws.specs.Below.{count-none, First, first-tells, first-within}
+use Rattle.fuse.specs.Burn.{short-anti}
 use Rattle.partition.specs.declared.State.{State}
 use Rattle.partition.specs.Partition.{pairs, indicator, shortAt, lowestPair, lowestShort, shortPairs, shortBesides, SomeShort, counted, marked}
 use Rattle.partition.specs.Partition.{noData, stateOf, zeroCell}
@@ -104,6 +106,16 @@ module _ (zeroizable : Bool) (bound : ℕ) (part : List ℕ) where
       let last = and _ _ c in
       let first = and _ _ (last .0) in
       (first .0, leb-true _ _ (first .1), not-true _ (last .1))
+
+-- more fuses never take it back; a cell is a number of 32 bits
+pub counted-mono : (zeroizable : Bool) (bound : ℕ) (part more : List ℕ) → length more ≡ length part → ((j : ℕ) → getD part j 0 < 2 ^ 32) → ((j : ℕ) → getD more j 0 < 2 ^ 32)
+    → ((j : ℕ) → getD part j 0 ⊆ getD more j 0) → counted zeroizable bound part ≡ true → counted zeroizable bound more ≡ true
+unfolding shortAt
+counted-mono zeroizable bound part more len small small′ grown c =
+    let told = counted-tells zeroizable bound part c in
+    let at : ℕ = 2 * indicator part in
+    counted-is zeroizable bound more (told .0) (rw len (told .1))
+    (rw len (not-yes _ (λ t. false≢true (sym (told .2) ∙ short-anti (small at) (small′ at) (grown at) (grown (at + 1)) bound t))))
 
 -- ---- the lowest short pair
 

@@ -3,9 +3,9 @@
 use Prim.Native.Nat.{ℕ, zero, suc, _+_, _-_, _*_, _%_, _^_, _≤_, _<_}
 use mathlib.Core.Logic.{_⊎_, inl, inr, ⊎-elim, _↔_}
 use mathlib.Core.Path.{_≡_, refl, sym, ap, subst, _∙_}
-use mathlib.Core.Bool.{Bool, true, false, not, _&&_, _||_, false≢true}
+use mathlib.Core.Bool.{Bool, true, false, cond, not, _&&_, _||_, false≢true}
 use mathlib.Core.List.{List}
-use native.Mathlib.Nat.{eq-or-lt-of-le}
+use native.Mathlib.Nat.{eq-or-lt-of-le, add-zero}
 use native.Mathlib.Omega.{arith}
 use lib.ListN.{length, getD}
 use lib.Dec.{eqb}
@@ -120,6 +120,13 @@ pub besides-by : (bound : ℕ) (part : List ℕ) {short : ℕ} {last : Bool} →
 besides-by bound part p s l = rw (s, l, shorts-split bound part p) (none-besides (shortBesides bound part) (shortAt bound part (indicator part)))
 
 module _ (zeroizable : Bool) (bound : ℕ) (part : List ℕ) where
+  -- the state of a partition that counts as zeroized is the one that document 01 gave it: "no pair short", "some pair short"
+  pub counted-state : 1 ≤ bound → counted zeroizable bound part ≡ true → stateOf zeroizable bound part ≡ cond (eqb (shortPairs bound part) 0) Erased Torn
+  unfolding stateOf
+  counted-state b c =
+      let told = counted-tells zeroizable bound part c in
+      simp (counted-marked zeroizable part b c, shorts-split bound part (told .1), told .2, add-zero)
+
   -- "an erased slot may report one short pair": exactly where its indicator is short, so that it is not counted as zeroized
   pub erased-shorts : stateOf zeroizable bound part ≡ Erased → shortPairs bound part ≡ tally (not (counted zeroizable bound part))
   unfolding counted
