@@ -1,4 +1,4 @@
-//! Document 01, "Direct commands".
+//! Document 01, "Direct commands", as P4 of document 02 changes WRITE.
 
 use crate::fuse;
 use crate::lent::Lent;
@@ -99,17 +99,18 @@ pub fn applying(lent: &Lent, command: Command) -> Vec<Refusal> {
 /// The refusals with 8.
 fn may_not_touch(fuses: Option<&[u32]>, map: &Map, word: Word, command: Command) -> bool {
     let entry = map.entries()[word.partition];
-    let counted = |cells| Partition::of(map, word.partition, cells).counted_as_zeroized();
+    let marked = |cells| Partition::of(map, word.partition, cells).marked();
     match command {
         // "Every word of a secret partition is refused (8)."
         Command::Read { .. } => entry.secret(),
         // "Refused (8): digest (in kind 1 this is ours), indicator, life cycle, a
-        // partition counted as zeroized, a value over 32 bits for a 32-bit word."
+        // partition counted as zeroized, a value over 32 bits for a 32-bit word." P4: "WRITE is
+        // refused (8) on a marked partition", and one that is counted as zeroized is marked.
         Command::Write { value, .. } => {
             word.part == Part::Digest
                 || word.part == Part::Indicator
                 || entry.kind == LIFE_CYCLE
-                || fuses.map_or(false, counted)
+                || fuses.map_or(false, marked)
                 || (word.size == Size::Cell && value > 0xFFFF_FFFF)
         }
         // "any word of a zeroizable partition, else 8"

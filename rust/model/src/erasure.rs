@@ -1,4 +1,4 @@
-//! Document 01, "Erasing a partition".
+//! Document 01, "Erasing a partition", as P4 of document 02 changes it.
 
 use crate::cache::Cache;
 use crate::drive::Drive;
@@ -61,13 +61,12 @@ pub fn erase(before: &Lent, erase: Erase) -> (Erasure, Lent) {
     let mut after = before.clone();
     let erasure = match refusal::lowest(&applying(before, erase)) {
         None => carry_out(&mut after, erase),
-        // "the indicator stays burned, one burn is reported to a library caller,
-        // all else is unchanged"
-        Some(number) if number == Refusal::IndicatorShort.number() => {
-            burn_in_order(&mut after.drive, erase.partition, &[ALL_ONES]);
-            Erasure::Refused { number, burns: 1 }
+        // "one burn is reported to a library caller": that of an indicator which, by P4, has no
+        // set fuse after it, so that it has set none, and 15 too leaves everything as it was.
+        Some(number) => {
+            let burns = u32::from(number == Refusal::IndicatorUnset.number());
+            Erasure::Refused { number, burns }
         }
-        Some(number) => Erasure::Refused { number, burns: 0 },
     };
     (erasure, after)
 }
@@ -134,22 +133,22 @@ pub(crate) fn partition_tests(lent: &Lent, erase: Erase) -> Vec<(Refusal, bool)>
         tests.push((Refusal::MayNotTouch, !entry.zeroizable()));
         // "WRITE, ZEROIZE and erasure on a slot are refused (10) while any place is held."
         tests.push((Refusal::KeysHeld, entry.slot() && lent.cache.any_held()));
-        // Where the power fails at burn 0, nothing asks whether the indicator is
-        // short, since "it answers only that it was cut".
+        // Where the power fails at burn 0, nothing asks for the indicator's
+        // fuses, since "it answers only that it was cut".
         let asked = entry.zeroizable() && erase.cut.map_or(true, |cut| cut.k > 0);
-        tests.push((Refusal::IndicatorShort, asked && short_after_burn(lent, erase)));
+        tests.push((Refusal::IndicatorUnset, asked && unmarked_after_burn(lent, erase)));
     }
     tests
 }
 
-/// "indicator short after its burn"; the indicator is what tells whether a
-/// zeroizable partition is counted as zeroized.
-fn short_after_burn(lent: &Lent, erase: Erase) -> bool {
+/// P4: "Erasure goes on whenever it is marked after the first burn." "15 is given exactly when
+/// no indicator fuse is set after its burn."
+fn unmarked_after_burn(lent: &Lent, erase: Erase) -> bool {
     let mut drive = lent.drive.clone();
     if drive.lengths_are_wrong() {
         return false;
     }
     burn_in_order(&mut drive, erase.partition, &[ALL_ONES]);
     let map = drive.map().expect("the map is good");
-    !Partition::of(&map, erase.partition as usize, &drive.cells).counted_as_zeroized()
+    !Partition::of(&map, erase.partition as usize, &drive.cells).marked()
 }

@@ -1,4 +1,4 @@
-//! A plain reading of document 01, and of P1 and P2 of document 02, written from the
+//! A plain reading of document 01, and of P1, P2 and P4 of document 02, written from the
 //! documents alone.
 //!
 //! Each file names the section or the request that it reads. Nothing here is

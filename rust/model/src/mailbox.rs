@@ -48,13 +48,8 @@ pub fn mailbox(before: &Lent, request: &Request) -> (Reply, Lent) {
     let reply = match refusal::lowest(&applying(before, request)) {
         None => carry_out(&mut after, request).expect("every field of the command is there"),
         // "Fuses, cache, block and response stay as they were, and the engine order
-        // is none", save what 15, which only FERS can get, leaves.
-        Some(number) => {
-            if number == Refusal::IndicatorShort.number() {
-                erase(&mut after, request);
-            }
-            Reply::Refused(number)
-        }
+        // is none."
+        Some(number) => Reply::Refused(number),
     };
     (reply, after)
 }

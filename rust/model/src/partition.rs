@@ -1,4 +1,5 @@
-//! Document 01, "Burning and counting": what the fuses of one partition say.
+//! Document 01, "Burning and counting", as P4 of document 02 changes it: what the fuses of one
+//! partition say.
 
 use crate::fuse;
 use crate::map::{Entry, Map};
@@ -17,13 +18,13 @@ pub struct Partition<'a> {
 /// the numbers that C is told.
 #[derive(Clone, Copy, Debug, PartialEq, Eq)]
 pub enum State {
-    /// "counted as zeroized, no pair short"
+    /// P4: "marked with no short pair besides the indicator"
     Erased,
-    /// "counted as zeroized, some pair short"
+    /// P4: "marked otherwise"
     Torn,
-    /// "not counted, every data cell zero"
+    /// P4: "not marked"; "every data cell zero"
     Blank,
-    /// "not counted, some data fuse set"
+    /// P4: "not marked"; "some data fuse set"
     Programmed,
 }
 
@@ -38,32 +39,45 @@ impl<'a> Partition<'a> {
     /// "Burning and counting": the number of short pairs, those of the digest
     /// and of the indicator included. In kind 1 too, two data cells are one pair.
     pub fn short_pairs(&self) -> usize {
-        self.pairs().filter(|pair| fuse::short(*pair, self.bound)).count()
+        self.short().count()
     }
 
     /// "Erasing a partition": "the first cell of the lowest one", in the whole
     /// array; none if no pair is short.
     pub fn lowest_short_pair(&self) -> Option<usize> {
-        let pair = self.pairs().position(|pair| fuse::short(pair, self.bound))?;
-        Some(self.entry.range().start + 2 * pair)
+        self.short().next()
     }
 
-    /// "Burning and counting": "when it is zeroizable and its indicator is not
-    /// short". The indicator is the last pair.
-    pub fn counted_as_zeroized(&self) -> bool {
-        let last = self.pairs().last();
-        self.entry.zeroizable() && last.map_or(false, |pair| !fuse::short(pair, self.bound))
+    /// P4: the lowest "short pair besides the indicator", by its first cell in the whole
+    /// array; none if there is none. Zeroizable partitions only: the indicator is the last pair.
+    pub fn lowest_short_besides_indicator(&self) -> Option<usize> {
+        let indicator = self.entry.range().end - 2;
+        self.short().find(|first| *first != indicator)
     }
 
-    /// "Burning and counting": the state.
+    /// P4: "Call a zeroizable partition marked when its indicator has at least one set fuse."
+    pub fn marked(&self) -> bool {
+        let indicator = self.pairs().last();
+        self.entry.zeroizable() && indicator.map_or(false, |pair| fuse::ones(pair) >= 1)
+    }
+
+    /// P4: "Erased now means marked with no short pair besides the indicator; torn means marked
+    /// otherwise; blank and programmed mean not marked." These two are told apart by the data.
     pub fn state(&self) -> State {
         let data = &self.cells[..self.entry.data_cells()];
-        match (self.counted_as_zeroized(), self.short_pairs()) {
-            (true, 0) => State::Erased,
-            (true, _) => State::Torn,
-            (false, _) if data.iter().all(|cell| *cell == 0) => State::Blank,
-            (false, _) => State::Programmed,
+        match self.marked() {
+            true if self.lowest_short_besides_indicator().is_none() => State::Erased,
+            true => State::Torn,
+            false if data.iter().all(|cell| *cell == 0) => State::Blank,
+            false => State::Programmed,
         }
+    }
+
+    /// The short pairs, ascending, each by its first cell in the whole array.
+    fn short(&self) -> impl Iterator<Item = usize> + 'a {
+        let (bound, firsts) = (self.bound, self.entry.range().step_by(2));
+        let named = firsts.zip(self.pairs());
+        named.filter(move |(_, pair)| fuse::short(*pair, bound)).map(|(first, _)| first)
     }
 
     fn pairs(&self) -> impl Iterator<Item = [u32; 2]> + 'a {

@@ -33,8 +33,8 @@ pub enum Refusal {
     NoEmptyPlace = 13,
     /// "KUNL, tag not held"
     TagNotHeld = 14,
-    /// "indicator short after its burn", the one that leaves something changed
-    IndicatorShort = 15,
+    /// Document 02, P4: "no indicator fuse is set after its burn"
+    IndicatorUnset = 15,
     /// Document 02, P2: "text not of that form or output buffer too short"
     BadText = 16,
 }

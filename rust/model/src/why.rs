@@ -24,7 +24,8 @@ pub enum Reason {
     Torn {
         /// The active slot's partition.
         partition: u32,
-        /// "its first short pair", named by its first cell in the whole array
+        /// "its first short pair", named by its first cell in the whole array. P4: "P1 passes
+        /// over the indicator when it names a short pair."
         cell: u32,
         /// "that pair's ones"
         ones: u32,
@@ -50,7 +51,8 @@ fn reason(map: &Map, cells: &[u32]) -> Reason {
             State::Programmed => return Reason::Available,
             State::Blank => return Reason::Blank { partition },
             State::Torn => {
-                let first = slot.lowest_short_pair().expect("a torn slot has a short pair");
+                let first = slot.lowest_short_besides_indicator();
+                let first = first.expect("a torn slot has a short pair besides its indicator");
                 let ones = fuse::ones([cells[first], cells[first + 1]]);
                 return Reason::Torn { partition, cell: first as u32, ones };
             }

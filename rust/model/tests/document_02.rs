@@ -1,5 +1,6 @@
-//! The model held to the requests of document 02, P1 and P2 so far. Every expected value is a
-//! document's, or follows from its rules; the lines of the program `why` are ours.
+//! The model held to the requests of document 02, P1 and P2 so far, and to what P4 changes for P1;
+//! the rest of P4 stands with the sections of document 01 that it changes. Every expected value is
+//! a document's, or follows from its rules; the lines of the program `why` are ours.
 
 use model::erasure::{erase, Cut, Erase};
 use model::{entry, text, why, Drive, Image, Lent, Reason};
@@ -12,6 +13,7 @@ const ALL: u32 = u32::MAX;
 /// A slot's data, digest and indicator pairs. 62 ones are not short under the bound 62.
 const ERASED: [u32; 6] = [ALL; 6];
 const JUST_ERASED: [u32; 6] = [ALL, ALL << 2, ALL >> 2, ALL, !1, !1];
+const WEAKLY_ERASED: [u32; 6] = [ALL, ALL, ALL, ALL, 0, 1];
 const BLANK: [u32; 6] = [0, 0, ALL, ALL, 0, 0];
 const PROGRAMMED: [u32; 6] = [0, 1, 0, 0, 0, 0];
 
@@ -24,10 +26,10 @@ fn slots(cells: &[[u32; 6]]) -> Drive {
     Drive { image: image.bytes(), marks: vec![0; cells.len()], cells }
 }
 
-/// "The small drive" after an erasure of its slot, cut or not, with this mark on cell 1.
-fn after(cut: Option<Cut>, mark: u32) -> Drive {
+/// "The small drive" after an erasure of its slot, cut or not, with this mark on a cell.
+fn after(cut: Option<Cut>, (cell, mark): (usize, u32)) -> Drive {
     let mut drive = Drive::small();
-    drive.marks[1] = mark;
+    drive.marks[cell] = mark;
     erase(&Lent { drive, ..Lent::default() }, Erase { partition: 0, cut }).1.drive
 }
 
@@ -42,7 +44,8 @@ fn small(change: impl Fn(&mut Drive)) -> Drive {
 type Row = (&'static str, Drive, Reason, &'static str);
 
 fn on_the_small_drive() -> Vec<Row> {
-    let low_60 = Some(Cut { k: 0, mask: u64::MAX >> 4 });
+    let [low_59, low_60] = [5, 4].map(|zeros| Some(Cut { k: 0, mask: u64::MAX >> zeros }));
+    let (none, seed_whole) = ((0, 0), Torn { partition: 0, cell: 0, ones: 1 });
     let at_59 = "none: the active slot, partition 0, is torn: the pair at cell 0 has 59 of 64 \
                  fuses set, at least 60 are needed";
     let at_1 = "none: the active slot, partition 0, is torn: the pair at cell 0 has 1 of 64 \
@@ -52,33 +55,40 @@ fn on_the_small_drive() -> Vec<Row> {
     let no_slot = small(|drive| drive.image[13] = ZEROIZABLE | SECRET);
     vec![
         ("as it stands", Drive::small(), Available, "available"),
-        ("case 2", after(None, 0), AllErased, "none: every slot is erased"),
-        ("case 3", after(None, 0x0F), AllErased, "none: every slot is erased"),
-        ("case 4", after(None, 0x1F), Torn { partition: 0, cell: 0, ones: 59 }, at_59),
-        ("case 6", after(low_60, 0), Torn { partition: 0, cell: 0, ones: 1 }, at_1),
+        ("case 2", after(None, none), AllErased, "none: every slot is erased"),
+        ("case 3", after(None, (1, 0x0F)), AllErased, "none: every slot is erased"),
+        ("case 4", after(None, (1, 0x1F)), Torn { partition: 0, cell: 0, ones: 59 }, at_59),
+        ("case 5", after(None, (5, 0x1F)), AllErased, "none: every slot is erased"),
+        ("case 6, low 59 bits", after(low_59, none), seed_whole, at_1),
+        ("case 6, low 60 bits", after(low_60, none), seed_whole, at_1),
         ("fresh", small(|drive| drive.cells[0] = 0), Blank { partition: 0 }, blank),
         ("no slot", no_slot, NoSlot, "none: the map has no slot"),
     ]
 }
 
 /// "the first that is not erased"; a torn slot's first short pair is its lowest, in the cells
-/// of the whole array.
+/// of the whole array. P4: "P1 passes over the indicator when it names a short pair."
 fn on_slots() -> Vec<Row> {
-    // 61 ones in the digest; 61 in the data and none in the digest. No indicator is short.
-    let digest = [ALL, ALL, ALL << 3, ALL, ALL, ALL];
+    // 61 ones in the digest; 61 in the data and none in the digest. No indicator is short but
+    // that of one fuse.
+    let [digest, weak] = [[ALL, ALL], [1, 0]].map(|[i, j]| [ALL, ALL, ALL << 3, ALL, i, j]);
     let both = [ALL, ALL >> 3, 0, 0, ALL, ALL >> 2];
     let at_2 = "none: the active slot, partition 0, is torn: the pair at cell 2 has 61 of 64 \
                 fuses set, at least 62 are needed";
     let at_12 = "none: the active slot, partition 2, is torn: the pair at cell 12 has 61 of 64 \
                  fuses set, at least 62 are needed";
     let blank = "none: the active slot, partition 1, is blank: it holds no seed";
-    let [digest, third] = [slots(&[digest, PROGRAMMED]), slots(&[ERASED, JUST_ERASED, both])];
+    let at_digest = Torn { partition: 0, cell: 2, ones: 61 };
+    let [digest, weak] = [digest, weak].map(|first| slots(&[first, PROGRAMMED]));
+    let third = slots(&[ERASED, JUST_ERASED, both]);
     vec![
-        ("torn at the digest alone", digest, Torn { partition: 0, cell: 2, ones: 61 }, at_2),
+        ("torn at the digest alone", digest, at_digest, at_2),
+        ("torn at the digest, the indicator short", weak, at_digest, at_2),
         ("two erased, then torn", third, Torn { partition: 2, cell: 12, ones: 61 }, at_12),
         ("erased, then blank", slots(&[ERASED, BLANK, PROGRAMMED]), Blank { partition: 1 }, blank),
         ("erased, then programmed", slots(&[ERASED, PROGRAMMED, BLANK]), Available, "available"),
         ("all erased", slots(&[ERASED, JUST_ERASED]), AllErased, "none: every slot is erased"),
+        ("weakly", slots(&[WEAKLY_ERASED, ERASED]), AllErased, "none: every slot is erased"),
     ]
 }
 

@@ -55,20 +55,34 @@ fn write_burns_a_data_word() {
     check(&lent, write(SOFT, 0xFFFF_FFFF), Word(0xFFFF_FFFF), &[(12, ALL)]);
     let marked = every_sort(&[(6, 0b001)], &[(6, 0b011)]);
     check(&marked, write(PLAIN, 0b111), Word(0b101), &[(6, 0b101)]);
-    // "Refused (8): digest (in kind 1 this is ours), indicator, life cycle, a
-    // partition counted as zeroized, a value over 32 bits for a 32-bit word."
+    // "Refused (8): digest (in kind 1 this is ours), indicator, life cycle, [...]
+    // a value over 32 bits for a 32-bit word."
     for cell in [PLAIN + 2, PLAIN + 4, SOFT + 2, SOFT + 4, CYCLE] {
         check(&lent, write(cell, 1), Refused(8), &[]);
     }
     check(&lent, write(SOFT, 0x1_0000_0000), Refused(8), &[]);
-    let indicator = |high| every_sort(&[(10, ALL), (11, high)], &[]);
-    check(&indicator(ALL << 4), write(PLAIN, 1), Refused(8), &[]);
-    check(&indicator(ALL << 5), write(PLAIN, 1), Word(1), &[(6, 1)]);
     // "Refused (9): the value lacks a set fuse."
     let (set, kept) = (every_sort(&[(7, 0x8000_0000), (12, 1)], &[]), 0x8000_0000_0000_0001);
     check(&set, write(PLAIN, u64::MAX >> 1), Refused(9), &[]);
     check(&set, write(SOFT, 0xFFFF_FFFE), Refused(9), &[]);
     check(&set, write(PLAIN, kept), Word(kept), &[(6, 1)]);
+}
+
+/// P4: "WRITE is refused (8) on a marked partition": a zeroizable one whose "indicator has at
+/// least one set fuse", whichever that is, and whatever is set or stuck elsewhere.
+#[test]
+fn one_fuse_of_its_indicator_keeps_a_partition_from_write() {
+    for [low, high] in [[1, 0], [1 << 31, 0], [0, 1], [0, 1 << 31], [ALL, ALL << 5], [ALL; 2]] {
+        let set = |first: usize| every_sort(&[(first, low), (first + 1, high)], &[]);
+        check(&set(4), write(SLOT, 1), Refused(8), &[]);
+        check(&set(10), write(PLAIN, 1), Refused(8), &[]);
+        check(&set(16), write(SOFT, 1), Refused(8), &[]);
+        // Another one's indicator, the digest, and the last pair where that is the digest.
+        check(&set(4), write(PLAIN, 1), Word(1), &[(6, 1)]);
+        check(&set(8), write(PLAIN, 1), Word(1), &[(6, 1)]);
+        check(&set(24), write(SEALED, 1), Done, &[(22, 1)]);
+    }
+    check(&every_sort(&[], &[(10, ALL), (11, ALL)]), write(PLAIN, 1), Word(1), &[(6, 1)]);
 }
 
 /// "ZEROIZE burns all ones into any word of a zeroizable partition, else 8."

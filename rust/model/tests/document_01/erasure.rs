@@ -85,7 +85,7 @@ fn a_cut_past_the_end_runs_as_uncut() {
 }
 
 /// "Otherwise it goes on through short words"; in kind 1 too, two data cells
-/// are one pair.
+/// are one pair. A short indicator is one more, and never the lowest.
 #[test]
 fn short_words_do_not_stop_the_erasure_and_are_counted_in_pairs() {
     let marks = [(12, 0b11), (13, 0b111), (15, 0x1F)];
@@ -93,26 +93,52 @@ fn short_words_do_not_stop_the_erasure_and_are_counted_in_pairs() {
     let left = [!0b11, !0b111, ALL, !0x1F, ALL, ALL];
     check(&pair, uncut(SOFT), erased(2, Some(12), 4), left);
     check(&digest, uncut(SOFT), erased(1, Some(14), 4), [ALL, ALL, ALL, !0x1F, ALL, ALL]);
+    let weak = with(&digest, &[], &[(16, ALL), (17, !1)]);
+    check(&weak, uncut(SOFT), erased(2, Some(14), 4), [ALL, ALL, ALL, !0x1F, 0, 1]);
 }
 
-/// "If the indicator is short after its burn the erasure stops with refusal 15":
-/// "the indicator stays burned". A cut of burn 0 does not ask.
+/// P4: "15 is given exactly when no indicator fuse is set after its burn": every one is stuck, and
+/// none was set before, so that this burn leaves all as it was. A cut of burn 0 does not ask.
 #[test]
-fn an_indicator_below_the_bound_stops_the_erasure() {
-    let lent = held(every_sort(&[], &[(17, 0x1F)]), 5);
-    let burned = [0, 0, 0, 0, ALL, !0x1F];
+fn an_indicator_without_a_set_fuse_stops_the_erasure() {
+    let stuck = [(16, ALL), (17, ALL)];
+    let lent = held(every_sort(&[(12, 5), (15, 9)], &stuck), 5);
+    let as_it_was = [5, 0, 0, 9, 0, 0];
+    check(&lent, uncut(SOFT), STOPPED, as_it_was);
     for k in [1, 2, 3, 4, ALL] {
-        check(&lent, cut(SOFT, k, 0), STOPPED, burned);
+        check(&lent, cut(SOFT, k, u64::MAX), STOPPED, as_it_was);
     }
-    check(&lent, cut(SOFT, 0, u64::MAX), Erasure::Cut { burns: 1 }, burned);
-    let indicator = |fuses, mark| every_sort(&[(5, fuses)], &[(5, mark)]);
-    let (whole, left) = (erased(0, None, 3), |last| [ALL, ALL, ALL, ALL, ALL, last]);
-    check(&indicator(0, 0x0F), uncut(SLOT), whole, left(!0x0F));
-    check(&indicator(0, 0x1F), uncut(SLOT), STOPPED, [0, 0, 0, 0, ALL, !0x1F]);
-    // A mark on a set fuse has no effect.
-    check(&indicator(0x10, 0x1F), uncut(SLOT), whole, left(!0x0F));
-    check(&indicator(0x10, 0x3F), uncut(SLOT), STOPPED, [0, 0, 0, 0, ALL, !0x2F]);
-    check(&indicator(ALL, ALL), uncut(SLOT), whole, left(ALL));
+    check(&lent, cut(SOFT, 0, u64::MAX), Erasure::Cut { burns: 1 }, as_it_was);
+    let slot = small(&[], &[(4, ALL), (5, ALL)]);
+    check(&slot, uncut(SLOT), STOPPED, [1, 0, 0, 0, 0, 0]);
+}
+
+/// P4: "Erasure goes on whenever it is marked after the first burn", by one fuse, and "still counts
+/// a short indicator". "A mark on a set fuse has no effect."
+#[test]
+fn an_indicator_with_one_set_fuse_lets_the_erasure_go_on() {
+    let indicator = |fuses: [u32; 2], marks: [u32; 2]| {
+        every_sort(&[(4, fuses[0]), (5, fuses[1])], &[(4, marks[0]), (5, marks[1])])
+    };
+    // The indicator's fuses and marks, and what its burn leaves.
+    let rows = [
+        ([0, 0], [!1, ALL], [1, 0]),
+        ([0, 0], [ALL, !(1 << 31)], [0, 1 << 31]),
+        ([1, 0], [ALL, ALL], [1, 0]),
+        ([0, 1 << 31], [ALL, ALL], [0, 1 << 31]),
+        ([0, 0], [0, 0x1F], [ALL, !0x1F]),
+        ([0, 0x10], [0, 0x3F], [ALL, !0x2F]),
+    ];
+    for (fuses, marks, [low, high]) in rows {
+        let lent = indicator(fuses, marks);
+        check(&lent, uncut(SLOT), erased(1, Some(4), 3), [ALL, ALL, ALL, ALL, low, high]);
+        let burned = [ALL, ALL, 1, 0, low, high];
+        check(&lent, cut(SLOT, 2, 1), Erasure::Cut { burns: 3 }, burned);
+    }
+    for (fuse, mark) in [(0, 0x0F), (0x10, 0x1F), (ALL, ALL)] {
+        let left = [ALL, ALL, ALL, ALL, ALL, fuse | !mark];
+        check(&indicator([0, fuse], [0, mark]), uncut(SLOT), erased(0, None, 3), left);
+    }
 }
 
 /// "A restart empties the cache and changes nothing else"

@@ -1,5 +1,6 @@
 //! The model held to the sentences and numbers of document 01, a file for each
-//! section. Every expected value is the document's, or follows from its rules.
+//! section, and to those of document 02's P4 where it changes them. Every expected
+//! value is a document's, or follows from its rules.
 
 mod direct_commands;
 mod erasure;
@@ -75,7 +76,7 @@ fn zeroize(cell: u32) -> Command {
     Command::Zeroize { cell }
 }
 
-/// An indicator that is short after its burn: "one burn is reported".
+/// No indicator fuse is set after its burn: "one burn is reported".
 const STOPPED: Erasure = Erasure::Refused { number: 15, burns: 1 };
 
 fn uncut(partition: u32) -> Erase {

@@ -18,11 +18,11 @@ fn check(lent: &Lent, call: &Call, expected: &[u32]) {
     assert!(expected.is_empty() || after == *lent, "{call}");
 }
 
-/// The small drive, its slot blank but for the digest and its indicator stuck
-/// below the bound, the cache full of tag 9; what has a lower number is mended:
+/// The small drive, its slot blank but for the digest and every fuse of its
+/// indicator stuck, the cache full of tag 9; what has a lower number is mended:
 /// B of 32, a block that lacks a byte, and the slot without data.
 fn worst(lowest: u32) -> Lent {
-    let mut lent = small(&[(0, u32::from(lowest > 11)), (2, 1)], &[(5, 0x1F)]);
+    let mut lent = small(&[(0, u32::from(lowest > 11)), (2, 1)], &[(4, ALL), (5, ALL)]);
     lent.cache.places = [Some(9); 16];
     lent.drive.image[4] = if lowest > 1 { 60 } else { 32 };
     lent.block.truncate(if lowest > 2 { 128 } else { 127 });

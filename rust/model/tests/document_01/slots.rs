@@ -11,6 +11,10 @@ const TORN: [u32; 6] = [1, 0, ALL, ALL, ALL, ALL];
 const BLANK: [u32; 6] = [0; 6];
 const PROGRAMMED: [u32; 6] = [0, 1, 0, 0, 0, 0];
 
+/// By P4 one fuse of the indicator makes it erased or torn too.
+const WEAKLY_ERASED: [u32; 6] = [ALL, ALL, ALL, ALL, 0, 1];
+const WEAKLY_TORN: [u32; 6] = [0, 1, 0, 0, 1, 0];
+
 /// "the first slot in map order that is not erased"; "The HEK is available when
 /// there is one and it is programmed. A torn slot is active and gives no HEK."
 #[test]
@@ -25,6 +29,9 @@ fn active_slot_is_the_first_that_is_not_erased() {
         ([ERASED, ERASED, PROGRAMMED], (Some(3), true)),
         ([ERASED, ERASED, ERASED], (None, false)),
         ([ERASED, TORN, PROGRAMMED], (Some(2), false)),
+        ([WEAKLY_ERASED, PROGRAMMED, PROGRAMMED], (Some(2), true)),
+        ([WEAKLY_ERASED, ERASED, WEAKLY_ERASED], (None, false)),
+        ([ERASED, WEAKLY_TORN, PROGRAMMED], (Some(2), false)),
         ([BLANK, PROGRAMMED, PROGRAMMED], (Some(1), false)),
     ];
     for (slots, expected) in rows {

@@ -53,6 +53,21 @@ fn slot_is_programmed_and_digest_fuses_alone_leave_it_blank() {
     assert_eq!(output, b"part cells state short\n0 6 programmed 3\n1 6 blank 3\nhek 0\n");
 }
 
+/// P4: "Erased now means marked with no short pair besides the indicator; torn means marked
+/// otherwise; blank and programmed mean not marked." Any one fuse of the indicator marks the slot,
+/// and no other.
+#[test]
+fn one_fuse_of_the_indicator_makes_the_slot_erased_or_torn() {
+    for [low, high] in [[1, 0], [1 << 31, 0], [0, 1], [0, 1 << 31], [ALL, ALL << 5]] {
+        check_state([ALL, ALL, ALL, ALL, low, high], (Erased, 1, false));
+        check_state([ALL, ALL << 4, ALL, ALL << 4, low, high], (Erased, 1, false));
+        check_state([ALL, ALL << 5, ALL, ALL, low, high], (Torn, 2, false));
+        check_state([ALL, ALL, ALL, ALL << 5, low, high], (Torn, 2, false));
+        check_state([0, 0, 0, 0, low, high], (Torn, 3, false));
+    }
+    check_state([ALL, ALL, ALL, ALL, 0, 0], (Programmed, 1, true));
+}
+
 #[test]
 fn case_2_fers_burns_every_fuse_of_the_slot() {
     let new = small(&[], &[]);
@@ -62,24 +77,29 @@ fn case_2_fers_burns_every_fuse_of_the_slot() {
     assert_eq!(mailbox(&new, &fers_0).1.response[..4], [0x04, 0xFC, 0xFF, 0xFF]);
 }
 
-/// Four stuck fuses leave 60 ones in word 0, five leave 59.
+/// Four stuck fuses leave 60 ones in word 0, five leave 59. P4: case 5 "now ends erased with 1
+/// short"; the response's chksum is 0 minus 1 minus 4. With word 0 short too it is torn.
 #[test]
-fn cases_3_to_5_stuck_fuses_leave_the_slot_erased_or_torn_or_stop_the_erasure() {
+fn cases_3_to_5_stuck_fuses_leave_the_slot_erased_or_torn() {
     let stuck = |cell, mark| small(&[], &[(cell, mark)]);
     let word_0 = |high| [ALL, high, ALL, ALL, ALL, ALL];
     let (sixty, fifty_nine) = (word_0(0xFFFF_FFF0), word_0(0xFFFF_FFE0));
     check(&stuck(1, 0x0F), uncut(0), erased(0, None, 3), sixty, (Erased, 0, false));
     check(&stuck(1, 0x1F), uncut(0), erased(1, Some(0), 3), fifty_nine, (Torn, 1, false));
-    let burned = [1, 0, 0, 0, 0xFFFF_FFFF, 0xFFFF_FFE0];
-    check(&stuck(5, 0x1F), uncut(0), STOPPED, burned, (Programmed, 3, true));
+    let indicator = [ALL, ALL, ALL, ALL, 0xFFFF_FFFF, 0xFFFF_FFE0];
+    check(&stuck(5, 0x1F), uncut(0), erased(1, Some(4), 3), indicator, (Erased, 1, false));
+    assert_eq!(mailbox(&stuck(5, 0x1F), &fers(0)).1.response[..4], [0xFB, 0xFF, 0xFF, 0xFF]);
+    let (both, left) = (small(&[], &[(1, 0x1F), (5, 0x1F)]), [ALL, !0x1F, ALL, ALL, ALL, !0x1F]);
+    check(&both, uncut(0), erased(2, Some(0), 3), left, (Torn, 2, false));
 }
 
+/// P4: "in 6 the mask of 59 gives torn, 3 short".
 #[test]
-fn cases_6_and_7_a_cut_leaves_the_slot_programmed_or_torn() {
+fn cases_6_and_7_a_cut_leaves_the_slot_torn() {
     let (new, low_59, low_60) = (small(&[], &[]), u64::MAX >> 5, u64::MAX >> 4);
     let [once, twice] = [1, 2].map(|burns| Erasure::Cut { burns });
     let [at_59, at_60] = [0x07FF_FFFF, 0x0FFF_FFFF].map(|high| [1, 0, 0, 0, ALL, high]);
-    check(&new, cut(0, 0, low_59), once, at_59, (Programmed, 3, true));
+    check(&new, cut(0, 0, low_59), once, at_59, (Torn, 3, false));
     check(&new, cut(0, 0, low_60), once, at_60, (Torn, 2, false));
     check(&new, cut(0, 1, 0xFFFF_FFFF), twice, [ALL, 0, 0, 0, ALL, ALL], (Torn, 2, false));
     // "FERS again: as case 2."
