@@ -68,19 +68,19 @@
  * only a data word of kind 1 is one cell. It is named by its first cell, counted
  * in the whole array.
  *
- * States. A pair is short when it has fewer ones than B. A partition is counted
- * as zeroized when it is zeroizable and its indicator is not short. It is
- *   erased      if it is counted and no pair of it is short
- *   torn        if it is counted and some pair of it is short
- *   blank       if it is not counted and every data cell is zero
- *   programmed  if it is not counted and some data fuse is set
+ * States. A pair is short when it has fewer ones than B. A partition is marked when
+ * it is zeroizable and its indicator has at least one set fuse. It is
+ *   erased      if it is marked and no pair of it but the indicator is short
+ *   torn        if it is marked and some other pair of it is short
+ *   blank       if it is not marked and every data cell is zero
+ *   programmed  if it is not marked and some data fuse is set
  * The active slot is the first slot in map order that is not erased. The HEK is
  * available when there is an active slot and it is programmed.
  *
  * Refusal numbers, each with the rest of its name behind SCI_REFUSAL_. They are
  * checked in ascending order and the lowest that applies is answered; sci_write_map
  * alone checks 16 first, then 1. A refused call leaves everything that is lent as
- * it was; 15 alone leaves the fuses named there.
+ * it was.
  *       SCI_REFUSAL_
  *    1  MAP              the map breaks a rule above
  *    2  LENGTHS          cells or marks are not as many as the map says; for the
@@ -98,10 +98,9 @@
  *   12  TAG_HELD         KLOD, tag held already
  *   13  NO_PLACE         KLOD, no empty place
  *   14  TAG_NOT_HELD     KUNL, tag not held
- *   15  INDICATOR_SHORT  the erasure's indicator is short after its burn: it has
- *                        fewer ones than the map's bound. Every fuse of the
- *                        indicator that is not marked stuck is set, and all else
- *                        is as it was
+ *   15  INDICATOR_UNSET  the erasure's indicator has no set fuse after its burn:
+ *                        every fuse of it is stuck, and none was set before. The
+ *                        erasure stops before the data
  *   16  TEXT             the map's text has not its form, or the buffer for the
  *                        image is too short
  */
@@ -117,7 +116,7 @@ extern "C" {
 
 /* The version of this header and of the archive that goes with it: it grows by one
  * whenever something changes for a caller. docs/CHANGES.md says what. */
-#define SCI_VERSION 7
+#define SCI_VERSION 8
 
 /* Of a function whose answer has to be looked at: a warning where it is not, if the
  * compiler has one. An erasure that ended is not yet an erased partition. */
@@ -165,7 +164,7 @@ extern "C" {
 #define SCI_REFUSAL_TAG_HELD 12
 #define SCI_REFUSAL_NO_PLACE 13
 #define SCI_REFUSAL_TAG_NOT_HELD 14
-#define SCI_REFUSAL_INDICATOR_SHORT 15
+#define SCI_REFUSAL_INDICATOR_UNSET 15
 #define SCI_REFUSAL_TEXT 16
 
 /* states[i] of sci_states */
@@ -193,8 +192,8 @@ extern "C" {
 #define SCI_REFUSED 3
 
 /* sci_erasure.kind. SCI_ENDED says that the erasure ran to its end, and no more:
- * The partition is erased only if short_pairs is 0; otherwise it is torn, and its
- * seed may still be there. */
+ * The partition is erased only if short_pairs is 0, or first_short is its indicator's
+ * cell; otherwise it is torn, and its seed may still be there. */
 #define SCI_ENDED 0
 #define SCI_CUT 1
 #define SCI_ERASURE_REFUSED 2
@@ -256,7 +255,8 @@ typedef struct {
     uint32_t partition; /* the active slot's partition where it is blank or torn,
                            else 0 */
     uint32_t cell;      /* torn: the first cell, numbered in the whole array, of its
-                           first short pair, which is the lowest; else 0 */
+                           first short pair, which is the lowest, and never the
+                           indicator; else 0 */
     uint32_t ones;      /* torn: that pair's ones, fewer than the bound; else 0 */
 } sci_reason;
 
@@ -274,17 +274,21 @@ typedef struct {
 } sci_answer;
 
 /* What an erasure answers. Look at the kind first. SCI_ENDED: The partition is
- * erased only if short_pairs is 0; otherwise it is torn, and its seed may still be
- * there. Cut or refused, short_pairs is 0 and says nothing: sci_states does. */
+ * erased only if short_pairs is 0, or first_short is its indicator's cell, which is
+ * first + length - 2 by sci_partition: the indicator is the last pair, so that no other
+ * is short then. Otherwise it is torn, and its seed may still be there. To ask for no
+ * short pair at all fails good drives, to ask for SCI_ENDED alone passes torn ones. Cut
+ * or refused, short_pairs is 0 and says nothing: sci_states does. */
 typedef struct {
     uint32_t kind;        /* SCI_ENDED, SCI_CUT or SCI_ERASURE_REFUSED */
     uint32_t refusal;     /* the refusal's number, 0 unless refused */
-    uint32_t short_pairs; /* pairs with fewer ones than the bound, 0 unless ended */
+    uint32_t short_pairs; /* pairs with fewer ones than the bound, those of digest and
+                             indicator included; 0 unless ended */
     uint32_t first_short; /* ended: the first cell of the lowest short pair,
                              numbered in the whole array, or SCI_NO_CELL if there
                              is none; else 0 */
     uint32_t burns;       /* burns carried out: all of them if ended; k + 1 if cut;
-                             1 if refused with 15, else 0 */
+                             1 if refused with 15, which set no fuse; else 0 */
 } sci_erasure;
 
 /* What the mailbox answers. */
@@ -335,9 +339,10 @@ sci_written sci_write_map(const uint8_t *text, size_t text_bytes,
 /*
  * The state and the short pairs of every partition: those of partition i are
  * written to states[i], as a SCI_STATE_ number, and to short_pairs[i], which
- * counts digest and indicator too. Answers how many partitions there are; the
- * elements past them keep their numbers, and nothing else changes. The states do
- * not depend on the marks, but marks of another count are refused too.
+ * counts digest and indicator too, so that an erased one has 0, or 1 where its
+ * indicator is short. Answers how many partitions there are; the elements past
+ * them keep their numbers, and nothing else changes. The states do not depend on
+ * the marks, but marks of another count are refused too.
  * Refused: 1, 2; nothing is written.
  */
 SCI_ANSWER
@@ -354,8 +359,8 @@ sci_listing sci_states(const uint8_t *image, size_t image_bytes,
  * by the active slot's state, with its partition. A torn slot is told with its first
  * short pair, which is the lowest, in its data or its digest, and with that pair's
  * ones: after an erasure that was cut at its indicator they are those of a word of the
- * seed. Changes nothing. The reason does not depend on the marks, but marks of another
- * count are refused too.
+ * seed. The indicator, which may be short too, is passed over. Changes nothing. The
+ * reason does not depend on the marks, but marks of another count are refused too.
  * Refused: 1, 2.
  */
 SCI_ANSWER
@@ -384,11 +389,10 @@ sci_answer sci_read(const uint8_t *image, size_t image_bytes,
 
 /*
  * WRITE of a value to the data word that starts at this cell. Burns each fuse
- * of the value that is not marked stuck, and leaves all others. Answers the
- * word as it then stands, or done in a secret partition.
- * Refused: 1, 2, 7; 8 for digest, indicator, life cycle, a partition counted
- * as zeroized, a value over 32 bits for a 32-bit word; 9 where the value lacks
- * a set fuse; 10.
+ * of the value that is not stuck, and leaves all others. Answers the word as it
+ * then stands, or done in a secret partition.
+ * Refused: 1, 2, 7; 8 for digest, indicator, life cycle, a marked partition, a
+ * value over 32 bits for a 32-bit word; 9 where the value lacks a set fuse; 10.
  * With a key held, 9 or 10 tells whether the value lacks a set fuse of a word of
  * a slot: who may WRITE to a slot can find its fuses, though no word is shown.
  */
@@ -400,9 +404,8 @@ sci_answer sci_write(const uint8_t *image, size_t image_bytes,
 
 /*
  * ZEROIZE of the word that starts at this cell. Burns each of its fuses that
- * is not marked stuck, and leaves all others. Answers the word as it then
- * stands; in a secret partition only if its ones reach the map's bound,
- * otherwise withheld.
+ * is not stuck, and leaves all others. Answers the word as it then stands; in a
+ * secret partition only if its ones reach the map's bound, otherwise withheld.
  * Refused: 1, 2, 7; 8 in a partition that is not zeroizable; 10.
  */
 SCI_ANSWER
@@ -413,13 +416,13 @@ sci_answer sci_zeroize(const uint8_t *image, size_t image_bytes,
 
 /*
  * Erasure of the partition of this number. Burns, in this order, every fuse
- * that is not marked stuck of the indicator, of each data word ascending, and
- * of the digest; no other fuse changes. A short word does not stop it, but a
- * short indicator does, with 15. Answers SCI_ENDED, the short pairs that are
- * left, those of digest and indicator included, the first cell of the lowest of
- * them, and the number of burns, one for each word.
- * The partition is erased only if short_pairs is 0; otherwise it is torn, and its
- * seed may still be there.
+ * that is not stuck of the indicator, of each data word ascending, and of the
+ * digest; no other fuse changes. A short word does not stop it, nor does a short
+ * indicator; an indicator without a set fuse does, with 15. Answers SCI_ENDED, the
+ * short pairs that are left, those of digest and indicator included, the first cell
+ * of the lowest of them, and the number of burns, one for each word.
+ * The partition is erased only if short_pairs is 0, or first_short is its
+ * indicator's cell; otherwise it is torn, and its seed may still be there.
  * Asked for again, after a cut too, it begins at the indicator. It answers as
  * the first time, or as it would have if that one was cut, where no key is held
  * either time, the image and the marks are the same, and since then no other
@@ -490,9 +493,9 @@ void sci_restart(sci_context *context);
  * KUNL frees the lowest place that holds the tag; the engine is to unload, and
  * the block is as for a load with the MEK zero.
  * FERS is sci_erase of the partition that it names: it is erased only if the
- * response's short pairs are 0; otherwise it is torn, and its seed may still be
- * there. The block and the context are unchanged, and there is no order for the
- * engine.
+ * response's short pairs are 0, or its first short cell is the indicator's;
+ * otherwise it is torn, and its seed may still be there. The block and the context
+ * are unchanged, and there is no order for the engine.
  * FSTA changes nothing but the response; there is no order for the engine.
  *
  * The response buffer has SCI_LEAST_RESPONSE bytes or more, the block has

@@ -9,8 +9,9 @@
  *   cc -std=c99 -I include examples/c/key_block.c target/staticlib/libsciambrunola.a \
  *     -o target/key_block
  *   target/key_block
- * An argument is a stuck mark for cell 1, in hexadecimal: with 0F word 0 gets 60 of
- * its 64 ones, which is enough; with 1F it gets 59, and the slot is not erased.
+ * Arguments are stuck marks for cells 1 and 5, in hexadecimal. With 0F word 0 gets 60
+ * of its 64 ones, which is enough; with 1F it gets 59, and the slot is not erased. With
+ * 0 1F the indicator gets 59, and the slot is erased all the same.
  */
 #include "sciambrunola.h"
 
@@ -242,8 +243,16 @@ static bool erase_slot_cut(void)
     return true;
 }
 
-/* Erases the slot. That the erasure ended is not enough: with a short pair the slot
- * is torn, and its seed may still be there. The reason then names that pair. */
+/* Whether an erasure of the slot that ended has erased it: no pair is short, or the
+ * first that is short is the indicator, the last pair, so that no other is. */
+static bool is_erased(sci_erasure erasure)
+{
+    sci_fields slot = sci_partition(map, sizeof map, SLOT);
+    return erasure.short_pairs == 0 || erasure.first_short == slot.first + slot.length - 2;
+}
+
+/* Erases the slot. That the erasure ended is not enough: with another short pair the
+ * slot is torn, and its seed may still be there. The reason then names that pair. */
 static bool erase_slot(void)
 {
     sci_erasure erasure = erase();
@@ -251,7 +260,7 @@ static bool erase_slot(void)
     if (erasure.kind != SCI_ENDED) {
         return failed("erasure", erasure.refusal);
     }
-    if (erasure.short_pairs != 0) {
+    if (!is_erased(erasure)) {
         fprintf(stderr, "erasure: the slot is torn, its seed may still be there\n");
         return false;
     }
@@ -265,15 +274,16 @@ static bool is_mark(const char *text)
     return digits >= 1 && digits <= 8 && text[digits] == '\0';
 }
 
-/* Puts the mark on cell 1 that the argument names, if there is one. */
-static bool take_mark(int argc, char **argv)
+/* Puts the marks on cells 1 and 5 that the arguments name, as many as there are. */
+static bool take_marks(int argc, char **argv)
 {
-    if (argc > 2 || (argc == 2 && !is_mark(argv[1]))) {
-        fprintf(stderr, "usage: key_block [mark of cell 1, 1 to 8 hexadecimal digits]\n");
-        return false;
-    }
-    if (argc == 2) {
-        marks[1] = (uint32_t)strtoul(argv[1], NULL, 16);
+    int i;
+    for (i = 1; i < argc; i++) {
+        if (i > 2 || !is_mark(argv[i])) {
+            fprintf(stderr, "usage: key_block [mark of cell 1 [mark of cell 5]], in hexadecimal\n");
+            return false;
+        }
+        marks[i == 1 ? 1 : 5] = (uint32_t)strtoul(argv[i], NULL, 16);
     }
     return true;
 }
@@ -283,7 +293,7 @@ int main(int argc, char **argv)
     uint8_t mek[MEK_BYTES];
     bool done;
     memset(mek, 0x4B, sizeof mek); /* stands for a key */
-    done = take_mark(argc, argv) && read_map() && list_states() && ask_for_status(true)
+    done = take_marks(argc, argv) && read_map() && list_states() && ask_for_status(true)
            && load_key(UINT64_C(0x1122334455667788), mek) && erase_with_key_held() && restart()
            && erase_slot_cut() && list_states() && erase_slot() && ask_for_status(false);
     return done ? EXIT_SUCCESS : EXIT_FAILURE;

@@ -6,9 +6,9 @@
 //!
 //! From the root of the repository, once the archive is built:
 //!   cargo run --offline --release --manifest-path rust/Cargo.toml --bin key_block
-//! An argument, behind `--`, is a stuck mark for cell 1, in hexadecimal: with 0F
-//! word 0 gets 60 of its 64 ones, which is enough; with 1F it gets 59, and the slot
-//! is not erased.
+//! Arguments, behind `--`, are stuck marks for cells 1 and 5, in hexadecimal. With 0F
+//! word 0 gets 60 of its 64 ones, which is enough; with 1F it gets 59, and the slot is
+//! not erased. With 0 1F the indicator gets 59, and the slot is erased all the same.
 #![forbid(unsafe_code)]
 
 use sciambrunola::{code, flag, kind, refusal, BLOCK_BYTES, LEAST_RESPONSE};
@@ -183,14 +183,16 @@ impl Drive {
         held.map_or(Ok(()), |tag| failed("restart", tag))
     }
 
-    /// Erases the slot. That the erasure ended is not enough: with a short pair the
-    /// slot is torn, and its seed may still be there. The reason then names that pair.
+    /// Erases the slot. That the erasure ended is not enough: with another short pair
+    /// than the indicator the slot is torn, and its seed may still be there. The reason
+    /// then names that pair.
     fn erase_slot(&mut self) -> Step {
         let erasure = self.erase();
         self.list_states()?;
         self.tell_why()?;
         match erasure {
-            Erasure::Ended { short_pairs: 0, .. } => Ok(()),
+            Erasure::Ended { first_short: None, .. } => Ok(()),
+            Erasure::Ended { first_short: Some(cell), .. } if is_indicator(cell) => Ok(()),
             Erasure::Ended { .. } => {
                 Err("erasure: the slot is torn, its seed may still be there".to_string())
             }
@@ -212,6 +214,15 @@ impl Drive {
     }
 }
 
+/// Whether the pair at this cell is the slot's indicator. That is the last pair: where it
+/// is the first that is short, no other is.
+fn is_indicator(cell: u32) -> bool {
+    match partition(&MAP, SLOT) {
+        Fields::Partition { first, length, .. } => cell == first + length - 2,
+        Fields::Refused(_) => false,
+    }
+}
+
 /// The fields of requests and responses: four bytes each, low byte first.
 fn put_field(bytes: &mut [u8], at: usize, value: u32) {
     bytes[at..at + 4].copy_from_slice(&value.to_le_bytes());
@@ -226,16 +237,17 @@ fn is_mark(text: &str) -> bool {
     (1..=8).contains(&text.len()) && text.bytes().all(|byte| byte.is_ascii_hexdigit())
 }
 
-/// The mark for cell 1 that the argument names, 0 if there is none.
-fn mark() -> Result<u32, String> {
-    let arguments: Vec<String> = std::env::args().skip(1).collect();
-    let read = match arguments.as_slice() {
-        [] => Some(0),
-        [mark] if is_mark(mark) => u32::from_str_radix(mark, 16).ok(),
-        _ => None,
-    };
-    let usage = "usage: key_block [mark of cell 1, 1 to 8 hexadecimal digits]";
-    read.ok_or_else(|| usage.to_string())
+/// The marks for cells 1 and 5 that the arguments name, 0 where there is none.
+fn marks() -> Result<[u32; 2], String> {
+    let mut marks = [0; 2];
+    for (i, mark) in std::env::args().skip(1).enumerate() {
+        if i >= marks.len() || !is_mark(&mark) {
+            let usage = "usage: key_block [mark of cell 1 [mark of cell 5]], in hexadecimal";
+            return Err(usage.to_string());
+        }
+        marks[i] = u32::from_str_radix(&mark, 16).map_err(|error| error.to_string())?;
+    }
+    Ok(marks)
 }
 
 fn main() -> ExitCode {
@@ -249,10 +261,11 @@ fn main() -> ExitCode {
 }
 
 fn story() -> Step {
-    let (mut cells, mut marks) = ([0; 12], [0; 12]);
-    (cells[0], marks[1]) = (1, mark()?);
+    let (mut cells, mut stuck) = ([0; 12], [0; 12]);
+    cells[0] = 1;
+    [stuck[1], stuck[5]] = marks()?;
     let (response, block) = ([0; LEAST_RESPONSE], [0; BLOCK_BYTES]);
-    let mut drive = Drive { cells, marks, context: Context::new(), response, block };
+    let mut drive = Drive { cells, marks: stuck, context: Context::new(), response, block };
     read_map()?;
     drive.list_states()?;
     drive.ask_for_status(true)?;

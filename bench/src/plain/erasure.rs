@@ -1,6 +1,6 @@
-//! Document 01, "Erasing a partition", without cuts.
+//! Document 01, "Erasing a partition", without cuts; document 02, P4.
 
-use super::fuses::{burn, is_short};
+use super::fuses::{burn, is_short, marks_partition};
 use super::map::{Entry, Map};
 use super::{Cache, Drive, Refusal};
 
@@ -36,22 +36,17 @@ pub fn erase_in(
         return Err(10);
     }
     let (part, marks) = (&mut drive.cells[entry.range()], &drive.marks[entry.range()]);
-    let burns = burn_in_order(part, marks, entry, map.header.bound)?;
+    let burns = burn_in_order(part, marks, entry)?;
     let (short_pairs, lowest) = count_short(part, map.header.bound);
     let first_short = lowest.map(|pair| u32::from(entry.first) + 2 * pair);
     Ok(Erased { short_pairs, first_short, burns })
 }
 
 /// Burns the indicator, the data words ascending and the digest: refusal 15.
-fn burn_in_order(
-    part: &mut [u32],
-    marks: &[u32],
-    entry: Entry,
-    bound: u16,
-) -> Result<u32, Refusal> {
+fn burn_in_order(part: &mut [u32], marks: &[u32], entry: Entry) -> Result<u32, Refusal> {
     let (digest, indicator) = (part.len() - 4, part.len() - 2);
     burn(&mut part[indicator..], &marks[indicator..]);
-    if is_short(&part[indicator..], bound) {
+    if !marks_partition(&part[indicator..]) {
         return Err(15);
     }
     let data = if entry.is_software() {

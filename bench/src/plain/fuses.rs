@@ -1,4 +1,4 @@
-//! Document 01, "Burning and counting" and the active slot; document 02, P1.
+//! Document 01, "Burning and counting" and the active slot; document 02, P1 and P4.
 
 use super::map::{Entry, Map};
 use super::Refusal;
@@ -29,10 +29,11 @@ pub fn why(image: &[u8], cells: &[u32], marks: &[u32]) -> Result<Reason, Refusal
         None => Reason::NoSlot,
         Some((partition, State::Blank)) => Reason::Blank { partition },
         Some((partition, State::Torn)) => {
-            let range = map.entries().nth(partition as usize).expect("it is a slot").range();
-            let mut named = range.clone().step_by(2).zip(cells[range].chunks_exact(2));
+            let slot = map.entries().nth(partition as usize).expect("it is a slot").range();
+            let judged = slot.start..slot.end - 2;
+            let mut named = judged.clone().step_by(2).zip(cells[judged].chunks_exact(2));
             let short = named.find(|(_, pair)| is_short(pair, map.header.bound));
-            let (cell, pair) = short.expect("some pair of a torn slot is short");
+            let (cell, pair) = short.expect("a torn slot has a short pair besides its indicator");
             Reason::Torn { partition, cell: cell as u32, ones: ones(pair) }
         }
         Some(_) => Reason::Available,
@@ -57,8 +58,9 @@ fn survey(part: &[u32], entry: Entry, bound: u16) -> (State, u32) {
     let short = part.chunks_exact(2).filter(|pair| is_short(pair, bound)).count() as u32;
     let tail = if entry.is_zeroizable() { 4 } else { 2 };
     let data = &part[..part.len() - tail];
-    let state = if entry.is_zeroizable() && !is_short(&part[part.len() - 2..], bound) {
-        if short == 0 {
+    let last = &part[part.len() - 2..];
+    let state = if entry.is_zeroizable() && marks_partition(last) {
+        if short == u32::from(is_short(last, bound)) {
             State::Erased
         } else {
             State::Torn
@@ -69,6 +71,11 @@ fn survey(part: &[u32], entry: Entry, bound: u16) -> (State, u32) {
         State::Programmed
     };
     (state, short)
+}
+
+/// Whether an indicator has a set fuse, so that its partition is marked.
+pub fn marks_partition(indicator: &[u32]) -> bool {
+    indicator.iter().any(|cell| *cell != 0)
 }
 
 /// Whether a pair has fewer ones than the bound.

@@ -1,6 +1,7 @@
 /* Document 01, "The small drive", from C: the direct commands, which the example does not
- * show, and every field of their answers, of a place, a reply, a refused erasure and, by
- * document 02, P1 and P2, of reasons and of maps that are written. */
+ * show, and every field of their answers, of a place, a reply, an erasure that is refused and
+ * one that ends with a short indicator and, by document 02, P1 and P2, of reasons and of maps
+ * that are written. */
 #include "sciambrunola.h"
 
 #include <inttypes.h>
@@ -16,7 +17,8 @@ static const uint8_t image[] = {
     6, 0, 6, 0, 1, 0, 0, 0    /* entry 1, software */
 };
 static uint32_t cells[CELLS] = {1};
-static const uint32_t marks[CELLS] = {0, 0, 0, 0, 0, 0x1F};
+static const uint32_t marks[CELLS] = {0, 0, 0, 0, 0xFFFFFFFF, 0xFFFFFFFF};
+static const uint32_t other_marks[CELLS] = {0, 0, 0, 0, 0, 0x1F};
 static const uint32_t torn[CELLS] = {
     0xFFFFFFFF, 0xFFFFFFFF, /* data, erased */
     0x80000000, 0x00000011, /* the digest, short */
@@ -28,6 +30,14 @@ static void print_answer(const char *name, sci_answer answer)
 {
     printf("%s: kind %" PRIu32 ", refusal %" PRIu32 ", word %" PRIu64 "\n", name,
            answer.kind, answer.refusal, answer.word);
+}
+
+static void print_erasure(uint32_t *these, const uint32_t *stuck)
+{
+    sci_erasure erasure = sci_erase(image, sizeof image, these, CELLS, stuck, CELLS, &context, 0);
+    printf("erasure: kind %" PRIu32 ", refusal %" PRIu32 ", short %" PRIu32 ", first %" PRIu32
+           ", burns %" PRIu32 "\n", erasure.kind, erasure.refusal, erasure.short_pairs,
+           erasure.first_short, erasure.burns);
 }
 
 static void print_reason(const char *name, const uint32_t *these, size_t count)
@@ -57,7 +67,7 @@ int main(void)
 {
     const uint8_t klod[84] = {0xBC, 0xFE, 0xFF, 0xFF, [8] = 6, [12] = 5, [16] = 7, [20] = 8};
     uint8_t response[SCI_LEAST_RESPONSE], block[SCI_BLOCK_BYTES];
-    sci_erasure erasure;
+    uint32_t other_cells[CELLS] = {1};
     sci_reply reply;
     sci_place place;
     int i;
@@ -67,10 +77,8 @@ int main(void)
     print_answer("WRITE 0", sci_write(DRIVE, 0, 5));
     print_answer("ZEROIZE 4", sci_zeroize(DRIVE, 4));
     print_answer("ZEROIZE 6", sci_zeroize(DRIVE, 6));
-    erasure = sci_erase(DRIVE, 0);
-    printf("erasure: kind %" PRIu32 ", refusal %" PRIu32 ", short %" PRIu32 ", first %" PRIu32
-           ", burns %" PRIu32 "\n", erasure.kind, erasure.refusal, erasure.short_pairs,
-           erasure.first_short, erasure.burns);
+    print_erasure(cells, marks);
+    print_erasure(other_cells, other_marks);
     for (i = 0; i < 2; i++) {
         reply = sci_mailbox(DRIVE, SCI_KLOD, klod, sizeof klod, response, sizeof response, block,
                             sizeof block);

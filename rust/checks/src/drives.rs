@@ -23,7 +23,8 @@ pub fn over(random: &mut Random, image: Vec<u8>) -> Drive {
 }
 
 /// The same with fuses that leave something to burn: half of the partitions hold little, and the
-/// marks let a word that is burned whole end at the bound, one below it, or anywhere.
+/// marks let a word that is burned whole end at the bound, one below it, or anywhere. Half of the
+/// indicators are set and stuck as `weaken` does it.
 pub fn to_burn(random: &mut Random, image: Vec<u8>) -> Drive {
     let mut drive = over(random, image);
     if let Some(map) = drive.map() {
@@ -33,8 +34,23 @@ pub fn to_burn(random: &mut Random, image: Vec<u8>) -> Drive {
             }
         }
         drive.marks = marks_near(random, map.bound() as usize, &drive.cells);
+        for entry in map.entries().iter().filter(|entry| entry.zeroizable()) {
+            let indicator = entry.range().end - 2..entry.range().end;
+            if random.one_in(2) {
+                weaken(random, &mut drive.cells[indicator.clone()], &mut drive.marks[indicator]);
+            }
+        }
     }
     drive
+}
+
+/// Makes an indicator one of which every fuse, all but one or none is stuck, and none is set, or
+/// one, or any number of them.
+fn weaken(random: &mut Random, cells: &mut [u32], marks: &mut [u32]) {
+    let any = random.below(65);
+    let (set, stuck) = (random.pick(&[0, 0, 0, 1, any]), random.pick(&[64, 64, 63, 0]));
+    set_ones(random, set, cells);
+    set_ones(random, stuck, marks);
 }
 
 /// Makes cells or marks, or both, longer or shorter.
@@ -91,8 +107,12 @@ fn fill(random: &mut Random, bound: usize, data: usize, cells: &mut [u32]) {
         };
         set_ones(random, ones, pair);
     }
-    let pair = 2 * random.below(cells.len() / 2);
+    let (pair, last) = (2 * random.below(cells.len() / 2), cells.len() - 2);
     let cell = random.below(cells.len());
+    // No fuse of the last pair, the indicator where there is one, so that it is not marked.
+    if way >= 4 && random.one_in(2) {
+        cells[last..].fill(0);
+    }
     match way {
         // One pair, perhaps the indicator, just short.
         1 => set_ones(random, bound - 1, &mut cells[pair..pair + 2]),

@@ -1,5 +1,5 @@
 //! Copies of the model with one fault each, for the tests of the tests: one for each thing that a
-//! comparison looks at, for each clause of demand 3 one that breaks it, wrong reasons and wrong
+//! comparison looks at, for each clause of a history one that breaks it, wrong states, reasons and
 //! maps. That the proofs refuse faults of the key block itself is shown by the edits in
 //! `crates/*/must-fail`.
 
@@ -10,7 +10,7 @@ pub use maps::OF_MAPS;
 use crate::layout::Layout;
 use model::Reason::{AllErased, Available, Blank, NoSlot, Torn};
 use model::{Answer, Call, Command, Cut, Drive, Erase, Erasure, KeyBlock, Lent, Model};
-use model::{Reason, Reply, Said};
+use model::{Reason, Reply, Said, State};
 use std::ops::Range;
 
 /// Faults by how their difference from the model is told.
@@ -33,8 +33,8 @@ pub const OF_COMPARISONS: [&str; 16] = [
     "the model leaves ",
 ];
 
-/// Faults that break demand 3.
-pub const OF_HISTORIES: [&str; 16] = [
+/// Faults that break demand 3, or document 02's P4 on erasures.
+pub const OF_HISTORIES: [&str; 19] = [
     "numbers in 8 bits",
     "numbers in 16 bits",
     "a cut at the indicator burns data",
@@ -51,10 +51,15 @@ pub const OF_HISTORIES: [&str; 16] = [
     "response buffer cleared to its end",
     "a restart burns fuses",
     "a key held after an erasure",
+    "15 for a short indicator",
+    "no 15 for an indicator without a set fuse",
+    "an erasure tells its last short pair",
 ];
 
-/// Faults of the reason why there is no key.
-pub const OF_REASONS: [&str; 6] = [
+/// Faults of the states, and of the reason why there is no key.
+pub const OF_STATES: [&str; 8] = [
+    "a state by counted as zeroized, not by marked",
+    "a slot that is marked, but not counted as zeroized, gives its key",
     "the last short pair for the first",
     "the ones of the low half",
     "a cell counted from the partition's first",
@@ -72,10 +77,8 @@ impl KeyBlock for Faulty {
         let said = Model.answer(lent, &self.asked(call));
         let faulty = match (call, said) {
             (Call::Erase(Erase { partition, cut }), Said::Erasure(erasure)) => {
-                let range = Layout::of(&before.drive, *partition).map(|layout| layout.range);
-                let range = range.unwrap_or(0..0);
-                let late = cut.is_some();
-                self.erased(erasure, range, late, &before, lent).map(Said::Erasure)
+                let partition = Layout::of(&before.drive, *partition);
+                self.erased(erasure, partition, cut.is_some(), &before, lent).map(Said::Erasure)
             }
             (_, Said::Reply(Reply::Accepted { length, .. })) => self.replied(length, &before, lent),
             (Call::WriteMap(text), Said::Written(written)) => {
@@ -119,13 +122,15 @@ impl Faulty {
     fn erased(
         &self,
         right: Erasure,
-        Range { start, end }: Range<usize>,
+        partition: Option<Layout>,
         late: bool,
         before: &Lent,
         lent: &mut Lent,
     ) -> Option<Erasure> {
         use Erasure::{Cut, Erased, Refused};
         let (cells, before) = (&mut lent.drive.cells, &before.drive.cells);
+        let Range { start, end } = partition.as_ref().map_or(0..0, |p| p.range.clone());
+        let weak = partition.as_ref().map_or(false, |p| p.weakly_marked(cells));
         match (self.0, right) {
             ("a cut at the indicator burns data", Cut { burns: 1 }) => cells[start] |= 2,
             ("a cut does nothing", Cut { .. }) => cells.clone_from(before),
@@ -153,6 +158,23 @@ impl Faulty {
             }
             ("a key held after an erasure" | "place 15: ", Erased { .. }) => {
                 lent.cache.places[15] = Some(0);
+            }
+            // Document 01's rule, which left the indicator burned.
+            ("15 for a short indicator", Erased { .. }) if weak => {
+                cells[start..end - 2].copy_from_slice(&before[start..end - 2]);
+                return Some(Refused { number: 15, burns: 1 });
+            }
+            ("no 15 for an indicator without a set fuse", Refused { number: 15, .. }) => {
+                set(&mut cells[start..end - 2]);
+                return Some(Erased {
+                    short_pairs: 1,
+                    first_short: Some(end as u32 - 2),
+                    burns: 3,
+                });
+            }
+            ("an erasure tells its last short pair", Erased { short_pairs, burns, .. }) => {
+                let last = partition?.short_pairs(cells).last().map(|(first, _)| first as u32);
+                return Some(Erased { short_pairs, first_short: last, burns });
             }
             _ => {}
         }
@@ -192,6 +214,10 @@ impl Faulty {
             ("all erased where the map has no slot", Ok(NoSlot)) => AllErased,
             ("a blank slot taken for a programmed one", Ok(Blank { .. })) => Available,
             ("a refusal taken for no slot", Err(_)) => NoSlot,
+            (
+                "a slot that is marked, but not counted as zeroized, gives its key",
+                Ok(Torn { partition, .. }),
+            ) if Layout::of(drive, partition)?.weakly_marked(&drive.cells) => Available,
             ("the answer: the model says Reason(", Ok(AllErased)) => NoSlot,
             _ => return None,
         })
@@ -211,6 +237,14 @@ impl Faulty {
             }
             ("the answer: the model says Place(", Said::Place([1, 0])) => {
                 return Some(Said::Place([0, 0]));
+            }
+            ("a state by counted as zeroized, not by marked", Said::Listing([0, _])) => {
+                let partitions = Layout::all(&lent.drive);
+                for (state, partition) in lent.states.iter_mut().zip(partitions) {
+                    if partition.weakly_marked(&lent.drive.cells) {
+                        *state = State::Programmed as u32;
+                    }
+                }
             }
             ("state 0: ", Said::Listing([1 | 2, _])) => lent.states[0] ^= 1,
             ("short pairs 15: ", Said::Listing([0, 1..=15])) => lent.short_pairs[15] ^= 1,

@@ -11,7 +11,6 @@ pub use clauses::names;
 pub use play::{all_hold, broken_clauses, possible};
 
 use crate::calls::{commands, requests};
-use crate::layout::Layout;
 use crate::random::Random;
 use crate::{drives, maps};
 use model::{Call, Drive, Erase, Lent};
@@ -41,13 +40,8 @@ impl History {
     /// A history that is made again by its number alone.
     pub fn numbered(number: usize) -> History {
         let mut random = Random::numbered(SEED, number);
-        let mut start = drive(&mut random);
+        let start = drive(&mut random);
         let partition = commands::partition(&mut random, &start);
-        // The partition's last pair is freed of marks in one history of three, so that
-        // erasures which run to their end are as common as those refused with 15.
-        if let (Some(layout), true) = (Layout::of(&start, partition), random.one_in(3)) {
-            start.marks[layout.indicator()].fill(0);
-        }
         let count = random.between(1, MOST_ATTEMPTS);
         let attempts = (0..count).map(|_| attempt(&mut random, &start, partition)).collect();
         History { start, partition, attempts }

@@ -45,6 +45,11 @@ impl Layout {
         self.range.end - 2..self.range.end
     }
 
+    /// The first cell of the digest, which is before the indicator.
+    pub fn digest(&self) -> usize {
+        self.indicator().start - 2
+    }
+
     /// "Order of burns": "indicator, data words ascending, digest", each word by
     /// its cells. No word at all in a partition that is not zeroizable.
     pub fn order(&self) -> Vec<Range<usize>> {
@@ -52,20 +57,35 @@ impl Layout {
             return vec![];
         }
         let indicator = self.indicator();
-        let digest = indicator.start - 2..indicator.start;
+        let digest = self.digest()..indicator.start;
         let firsts = (self.range.start..digest.start).step_by(self.word_cells);
         let data = firsts.map(|first| first..first + self.word_cells);
         iter::once(indicator).chain(data).chain(iter::once(digest)).collect()
     }
 
-    /// By how many ones the indicator passes the bound.
-    pub fn past_bound(&self, cells: &[u32]) -> i64 {
-        i64::from(ones(&cells[self.indicator()])) - i64::from(self.bound)
+    /// The ones of the indicator in these cells, or in the marks.
+    pub fn indicator_ones(&self, cells: &[u32]) -> u32 {
+        ones(&cells[self.indicator()])
     }
 
-    /// "when it is zeroizable and its indicator is not short"
+    /// By how many ones the indicator passes the bound.
+    pub fn past_bound(&self, cells: &[u32]) -> i64 {
+        i64::from(self.indicator_ones(cells)) - i64::from(self.bound)
+    }
+
+    /// Document 02, P4: "when its indicator has at least one set fuse"
+    pub fn marked(&self, cells: &[u32]) -> bool {
+        self.zeroizable && self.indicator_ones(cells) > 0
+    }
+
+    /// Counted as zeroized: "when it is zeroizable and its indicator is not short"
     pub fn counted(&self, cells: &[u32]) -> bool {
         self.zeroizable && self.past_bound(cells) >= 0
+    }
+
+    /// Marked, and yet not counted as zeroized.
+    pub fn weakly_marked(&self, cells: &[u32]) -> bool {
+        self.marked(cells) && !self.counted(cells)
     }
 
     /// The pairs with fewer ones than the bound, ascending, each by its first cell in the
@@ -76,14 +96,15 @@ impl Layout {
         pairs.filter(move |(_, ones)| *ones < bound)
     }
 
-    /// Whether there is such a pair.
-    pub fn some_short(&self, cells: &[u32]) -> bool {
-        self.short_pairs(cells).next().is_some()
+    /// P4: "marked with no short pair besides the indicator"
+    pub fn erased(&self, cells: &[u32]) -> bool {
+        let indicator = self.indicator().start;
+        self.marked(cells) && self.short_pairs(cells).all(|(first, _)| first == indicator)
     }
 
-    /// "counted as zeroized, some pair short"
+    /// P4: "marked otherwise"
     pub fn torn(&self, cells: &[u32]) -> bool {
-        self.counted(cells) && self.some_short(cells)
+        self.marked(cells) && !self.erased(cells)
     }
 }
 

@@ -21,10 +21,13 @@ pub const MAP: &[u8; 24] = &[
     0x06, 0x00, 0x06, 0x00, 0x01, 0x00, 0x00, 0x00,
 ];
 
-/// The drive with no key held and this mark on a cell.
-pub fn marked(cell: usize, mark: u32) -> Lent {
+/// Every fuse of the slot's indicator stuck: none of it can be set.
+pub const INDICATOR_STUCK: &[(usize, u32)] = &[(4, u32::MAX), (5, u32::MAX)];
+
+/// The drive with no key held and stuck fuses: cells, each with its mark.
+pub fn stuck(marks: &[(usize, u32)]) -> Lent {
     let mut drive = Drive::small();
-    drive.marks[cell] = mark;
+    marks.iter().for_each(|(cell, mark)| drive.marks[*cell] = *mark);
     lent::of(drive)
 }
 
@@ -58,8 +61,9 @@ pub fn response(lent: &Lent, length: usize) -> Vec<u32> {
 /// What an erasure or the mailbox said.
 pub fn text(said: Said) -> String {
     let (length, order) = match said {
-        Said::Erasure(Erasure::Erased { short_pairs, burns, .. }) => {
-            return format!("short {short_pairs}, burns {burns}");
+        Said::Erasure(Erasure::Erased { short_pairs, first_short, burns }) => {
+            let first = first_short.map_or(String::new(), |cell| format!(", first {cell}"));
+            return format!("short {short_pairs}{first}, burns {burns}");
         }
         Said::Erasure(Erasure::Cut { burns }) => return format!("cut, burns {burns}"),
         Said::Erasure(Erasure::Refused { number, burns }) => {

@@ -1,9 +1,10 @@
 //! Callers. A C program is compiled with every warning an error, linked and run; its lines are
-//! written from the documents, with the mark 1F on cell 5: the indicator gets 59 ones, is
-//! withheld, and stops an erasure, so that the slot is still programmed and its HEK available.
-//! Other cells have the indicator set and three fuses of the digest: they are torn. The maps are
-//! the header's two texts, then one with too little room, one without its last line feed, and one
-//! with a slot that is not secret. A program that drops an erasure's answer is warned by its
+//! written from the documents. Every fuse of the indicator is stuck: it stays without a one, is
+//! withheld, and stops an erasure, so that the slot is still programmed and its HEK available. With
+//! the mark 1F on cell 5 instead, the indicator gets 59 ones, and an erasure ends with that pair
+//! short. Other cells have the indicator set and three fuses of the digest: they are torn. The maps
+//! are the header's two texts, then one with too little room, one without its last line feed, and
+//! one with a slot that is not secret. A program that drops an erasure's answer is warned by its
 //! compiler, in C and in Rust: an erasure that ended is not yet an erased partition.
 
 use checks::runner::{compiled, in_repository, run};
@@ -18,6 +19,7 @@ WRITE 0: kind 1, refusal 0, word 0
 ZEROIZE 4: kind 2, refusal 0, word 0
 ZEROIZE 6: kind 3, refusal 8, word 0
 erasure: kind 2, refusal 15, short 0, first 0, burns 1
+erasure: kind 0, refusal 0, short 1, first 4, burns 3
 KLOD: refusal 0, length 16, order 2, place 0, timeout 6
 KLOD: refusal 12, length 0, order 0, place 0, timeout 0
 place 0: kind 1, tag 700000005
@@ -69,5 +71,5 @@ fn rust_warns_of_a_dropped_erasure() {
     rustc("sciambrunola", "rust/sciambrunola/src/lib.rs");
     let said = rustc("dropped", "rust/checks/c/dropped.rs");
     assert!(said.contains("unused `Erasure` that must be used"), "{said}");
-    assert!(said.contains("only if no pair is short"), "{said}");
+    assert!(said.contains("only if no pair but the indicator is short"), "{said}");
 }

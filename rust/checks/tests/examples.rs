@@ -5,14 +5,16 @@
 //! no key is document 02's P1.
 //!
 //! With a stuck mark on cell 1 the last erasure is that of case 3 (0F: 60 of 64
-//! ones, erased) or of case 4 (1F: 59 of 64 ones, short 1, torn), and an example
-//! that leaves the slot torn must fail.
+//! ones, erased) or of case 4 (1F: 59 of 64 ones, short 1, torn), with one on cell 5
+//! it is that of case 5, which document 02, P4, changes (1F: the indicator has 59 of 64
+//! ones, short 1, erased). An example that leaves the slot torn must fail.
 
 use checks::runner;
 use std::path::Path;
 use std::process::Command;
 
-/// Up to the power failure; the states after it have short word 0 and digest.
+/// Up to the power failure; the states after it have short word 0 and digest, and the
+/// indicator if its fuses are stuck.
 const BEGINNING: &str = "\
 map: 2 partitions, 12 cells, bound 60
 partition 0: first cell 0, 6 cells, kind 0, flags 7
@@ -23,7 +25,7 @@ KLOD: place 0, timeout 1000
 erasure: refused 10
 restart: place 0 is empty
 erasure cut: 2 burns
-states: 0 torn, 2 short; 1 blank, 3 short
+states: 0 torn, SHORT short; 1 blank, 3 short
 ";
 
 const ERASED: &str = "\
@@ -33,9 +35,22 @@ why: every slot is erased
 FSTA: active slot 0xFFFFFFFF, HEK available 0
 ";
 
+const ERASED_WEAKLY: &str = "\
+erasure: 1 short, 3 burns
+states: 0 erased, 1 short; 1 blank, 3 short
+why: every slot is erased
+FSTA: active slot 0xFFFFFFFF, HEK available 0
+";
+
 const TORN: &str = "\
 erasure: 1 short, 3 burns
 states: 0 torn, 1 short; 1 blank, 3 short
+why: slot 0 is torn, its pair at cell 0 has 59 ones
+";
+
+const TORN_WEAKLY: &str = "\
+erasure: 2 short, 3 burns
+states: 0 torn, 2 short; 1 blank, 3 short
 why: slot 0 is torn, its pair at cell 0 has 59 ones
 ";
 
@@ -51,17 +66,23 @@ fn run(program: &Path, arguments: &[&str]) -> Ran {
     (output.status.code(), text(output.stdout), text(output.stderr))
 }
 
-fn ends(status: i32, end: &str, warning: &str) -> Ran {
-    (Some(status), format!("{BEGINNING}{end}"), warning.to_string())
+fn ends(status: i32, short_after_cut: &str, end: &str, warning: &str) -> Ran {
+    let beginning = BEGINNING.replace("SHORT", short_after_cut);
+    (Some(status), format!("{beginning}{end}"), warning.to_string())
 }
 
-/// Runs an example with no mark, with those of cases 3 and 4, and with arguments that are none.
+/// Runs an example with no mark, with those of cases 3, 4 and 5, with those of 4 and 5 at once, and
+/// with arguments that are none.
 fn check(program: &Path) {
-    assert_eq!(run(program, &[]), ends(0, ERASED, ""));
-    assert_eq!(run(program, &["0F"]), ends(0, ERASED, ""));
-    assert_eq!(run(program, &["1F"]), ends(1, TORN, WARNING));
-    let wrong = ["no mark", "", "100000000", "-1", "+1F", " 1F", "0x1F"].map(|mark| vec![mark]);
-    for wrong in wrong.into_iter().chain([vec!["1F", "1F"]]) {
+    assert_eq!(run(program, &[]), ends(0, "2", ERASED, ""));
+    assert_eq!(run(program, &["0F"]), ends(0, "2", ERASED, ""));
+    assert_eq!(run(program, &["1F"]), ends(1, "2", TORN, WARNING));
+    assert_eq!(run(program, &["0", "0F"]), ends(0, "2", ERASED, ""));
+    assert_eq!(run(program, &["0", "1F"]), ends(0, "3", ERASED_WEAKLY, ""));
+    assert_eq!(run(program, &["1F", "1F"]), ends(1, "3", TORN_WEAKLY, WARNING));
+    let wrong = ["no mark", "", "100000000", "-1", "+1F", " 1F", "0x1F"];
+    let wrong = wrong.into_iter().flat_map(|mark| [vec![mark], vec!["1F", mark]]);
+    for wrong in wrong.chain([vec!["1F"; 3]]) {
         let (status, printed, warning) = run(program, &wrong);
         assert_eq!((status, printed.as_str()), (Some(1), ""), "{wrong:?}");
         assert!(warning.starts_with("usage: "), "{warning}");

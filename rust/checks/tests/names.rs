@@ -10,7 +10,7 @@ use std::process::Command;
 
 /// Every name of the header after `SCI_`, in its order, with its number in hexadecimal.
 const HEADER: &str = "\
-VERSION 7
+VERSION 8
 PLACES 10, CONTEXT_WORDS 20, BLOCK_BYTES 80, LEAST_RESPONSE 14, PARTITIONS 10
 LONGEST_IMAGE 88
 KIND_HARDWARE 0, KIND_SOFTWARE 1, KIND_LIFE_CYCLE 2
@@ -18,7 +18,7 @@ FLAG_ZEROIZABLE 1, FLAG_SECRET 2, FLAG_SLOT 4
 REFUSAL_MAP 1, REFUSAL_LENGTHS 2, REFUSAL_CODE 3, REFUSAL_REQUEST_LENGTH 4
 REFUSAL_CHKSUM 5, REFUSAL_RESERVED 6, REFUSAL_NOT_FOUND 7, REFUSAL_FORBIDDEN 8
 REFUSAL_CLEARS_FUSE 9, REFUSAL_KEYS_HELD A, REFUSAL_NO_HEK B, REFUSAL_TAG_HELD C
-REFUSAL_NO_PLACE D, REFUSAL_TAG_NOT_HELD E, REFUSAL_INDICATOR_SHORT F
+REFUSAL_NO_PLACE D, REFUSAL_TAG_NOT_HELD E, REFUSAL_INDICATOR_UNSET F
 REFUSAL_TEXT 10
 STATE_ERASED 0, STATE_TORN 1, STATE_BLANK 2, STATE_PROGRAMMED 3
 REASON_AVAILABLE 0, REASON_NO_SLOT 1, REASON_ALL_ERASED 2
@@ -58,7 +58,7 @@ fn names_of_the_safe_calls_have_the_documents_numbers() {
     assert_eq!([refusal::REQUEST_LENGTH, refusal::CHKSUM, refusal::RESERVED], [4, 5, 6]);
     assert_eq!([refusal::NOT_FOUND, refusal::FORBIDDEN, refusal::CLEARS_FUSE], [7, 8, 9]);
     assert_eq!([refusal::KEYS_HELD, refusal::NO_HEK, refusal::TAG_HELD], [10, 11, 12]);
-    let last = [refusal::NO_PLACE, refusal::TAG_NOT_HELD, refusal::INDICATOR_SHORT, refusal::TEXT];
+    let last = [refusal::NO_PLACE, refusal::TAG_NOT_HELD, refusal::INDICATOR_UNSET, refusal::TEXT];
     assert_eq!(last, [13, 14, 15, 16]);
     let codes = [code::CLKC, code::KLOD, code::KUNL, code::FERS, code::FSTA];
     assert_eq!(codes, [0x434C_4B43, 0x4B4C_4F44, 0x4B55_4E4C, 0x4645_5253, 0x4653_5441]);

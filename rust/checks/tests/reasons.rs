@@ -39,9 +39,9 @@ fn asked(lent: &Lent) -> Answered {
     }
 }
 
-/// The small drive after FERS of its slot, with this mark on cell 1.
-fn after_fers(mark: u32) -> Lent {
-    let mut lent = small::marked(1, mark);
+/// The small drive after FERS of its slot, with these stuck fuses.
+fn after_fers(marks: &[(usize, u32)]) -> Lent {
+    let mut lent = small::stuck(marks);
     let said = Proved.answer(&mut lent, &Call::Mailbox(requests::fers(small::SLOT)));
     assert_eq!(said.refusal(), None);
     lent
@@ -49,7 +49,7 @@ fn after_fers(mark: u32) -> Lent {
 
 /// The small drive after its slot's erasure was cut at burn 0, with so many low bits burned.
 fn after_cut(low: u32) -> Lent {
-    let mut lent = small::marked(0, 0);
+    let mut lent = small::stuck(&[]);
     let said = small::erase(&mut lent, Some(Cut { k: 0, mask: low_bits(low) }));
     assert_eq!(said.refusal(), None);
     lent
@@ -58,7 +58,7 @@ fn after_cut(low: u32) -> Lent {
 /// The small drive with something changed. Its bound is at byte 4 of the map, the flags of its
 /// slot at byte 13.
 fn with(change: impl Fn(&mut Drive)) -> Lent {
-    let mut lent = small::marked(0, 0);
+    let mut lent = small::stuck(&[]);
     change(&mut lent.drive);
     lent
 }
@@ -78,17 +78,27 @@ fn cases() -> Vec<(&'static str, Lent, Answered)> {
     let programmed = [0, 0, 0, 1, 0, 0, 0, 0];
     let first_torn = slots([1, 0, ALL, ALL, ALL, ALL], programmed);
     let digest_short = slots([ALL, ALL, ALL, 7, ALL, ALL], programmed);
+    let indicator_too = slots([ALL, ALL, ALL, 7, 0, 1], programmed);
     vec![
         ("the small drive", with(|_| ()), Ok(Available)),
-        ("case 2", after_fers(0), Ok(AllErased)),
-        ("case 3", after_fers(0x0F), Ok(AllErased)),
-        ("case 4", after_fers(0x1F), torn(0, 0, 59)),
-        ("case 6, low 59 bits", after_cut(59), Ok(Available)),
+        ("case 2", after_fers(&[]), Ok(AllErased)),
+        ("case 3", after_fers(&[(1, 0x0F)]), Ok(AllErased)),
+        ("case 4", after_fers(&[(1, 0x1F)]), torn(0, 0, 59)),
+        ("case 5", after_fers(&[(5, 0x1F)]), Ok(AllErased)),
+        ("cases 4 and 5", after_fers(&[(1, 0x1F), (5, 0x1F)]), torn(0, 0, 59)),
+        ("case 6, no bit", after_cut(0), Ok(Available)),
+        ("case 6, low 59 bits", after_cut(59), torn(0, 0, 1)),
         ("case 6, low 60 bits", after_cut(60), torn(0, 0, 1)),
         ("no fuse set", with(|drive| drive.cells[0] = 0), Ok(Blank { partition: 0 })),
         ("no slot", with(|drive| drive.image[13] = ZEROIZABLE | SECRET), Ok(NoSlot)),
         ("torn, then programmed", first_torn, torn(0, 0, 1)),
         ("digest short", digest_short, torn(0, 2, 35)),
+        ("digest and indicator short", indicator_too, torn(0, 2, 35)),
+        (
+            "indicator short, programmed",
+            slots([ALL, ALL, ALL, ALL, 1, 0], programmed),
+            Ok(Available),
+        ),
         ("erased, torn", second([ALL, ALL, ALL, ALL << 5, 0, 0, ALL, ALL]), torn(1, 8, 59)),
         ("erased, digest short", second([ALL, ALL, ALL, ALL, 1, 2, ALL, ALL]), torn(1, 10, 2)),
         ("erased, blank", second([0, 0, 0, 0, ALL, ALL, 0, 0]), Ok(Blank { partition: 1 })),
@@ -121,6 +131,7 @@ struct Told {
 /// A slot by its fields and its state.
 struct Slot {
     partition: u32,
+    /// Its cells but for the indicator, which is no pair that a reason names.
     cells: Range<u32>,
     bound: u32,
     state: u32,
@@ -135,7 +146,7 @@ impl Told {
         let slot = |partition| match Proved.answer(&mut lent, &Call::Partition(partition)) {
             Said::Fields([0, _, _, bound, first, length, _, flags]) if flags & flag::SLOT != 0 => {
                 let state = lent.states[partition as usize];
-                Some(Slot { partition, cells: first..first + length, bound, state })
+                Some(Slot { partition, cells: first..first + length - 2, bound, state })
             }
             _ => None,
         };
@@ -199,7 +210,8 @@ fn the_reason_is_the_models_on_generated_drives_and_contradicts_no_other_call() 
 }
 
 /// On the drive of each case the answers of all others are found out, but for another pair of
-/// the same torn slot; of pairs are found out those that are none of the slot's, or not short.
+/// the same torn slot; of pairs are found out those that are none of the slot's, its indicator, or
+/// not short.
 #[test]
 fn a_reason_that_contradicts_is_found_out() {
     let same = |one, other| match (one, other) {
@@ -212,8 +224,8 @@ fn a_reason_that_contradicts_is_found_out() {
             assert_eq!(agrees(answered, &told), same(right, answered), "{name}: {other}");
         }
     }
-    let told = Told::of(&after_fers(0x1F));
-    for (cell, ones) in [(0, 60), (1, 59), (6, 59)] {
+    let told = Told::of(&after_fers(&[(1, 0x1F)]));
+    for (cell, ones) in [(0, 60), (1, 59), (4, 59), (6, 59)] {
         assert!(!agrees(Ok(Torn { partition: 0, cell, ones }), &told), "{cell}, {ones}");
     }
 }

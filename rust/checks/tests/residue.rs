@@ -145,7 +145,7 @@ fn no_call_leaves_a_secret() {
 
 #[test]
 fn cells_values_and_meks_are_known_and_what_is_shown_is_not() {
-    let (before, mut after) = (small::marked(0, 0), small::marked(0, 0));
+    let (before, mut after) = (small::stuck(&[]), small::stuck(&[]));
     (after.drive.cells[0], after.drive.cells[6]) = (0x1234_5678, 0x8765_4321);
     let set = |call: &Call, said| known(&[(0..6, true)], call, &before, &after, said);
     let four = |number: u32| number.to_le_bytes();

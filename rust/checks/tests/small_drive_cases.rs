@@ -1,6 +1,6 @@
-//! Document 01, "The small drive", cases 1 to 10: what the program `small_drive`
-//! prints, which plays them on the proved key block. A line has the request's chksum,
-//! the answer, the fields of the response, and the slot as it stands after it.
+//! Document 01, "The small drive", cases 1 to 10, of which document 02, P4, changes 5 and 6: what
+//! the program `small_drive` prints, which plays them on the proved key block. A line has the
+//! request's chksum, the answer, the fields of the response, and the slot as it stands after it.
 
 use checks::runner;
 use std::path::Path;
@@ -16,10 +16,11 @@ case 4, mark 1F on cell 1: FERS FFFFFED0, partition 0: 20 bytes, no order \
 [FFFFFFFF, 0, 0, 1, 0]; torn, 1 short, hek none, [FFFFFFFF, FFFFFFE0, ONES
 case 4, mark 1F on cell 1: FSTA FFFFFED2, status: 20 bytes, no order \
 [0, 0, 0, 0, 0]; torn, 1 short, hek none, [FFFFFFFF, FFFFFFE0, ONES
-case 5, mark 1F on cell 5: FERS FFFFFED0, partition 0: refused 15; \
-programmed, 3 short, hek 0, [1, 0, 0, 0, FFFFFFFF, FFFFFFE0]
+case 5, mark 1F on cell 5: FERS FFFFFED0, partition 0: 20 bytes, no order \
+[FFFFFFFB, 0, 0, 1, 4]; erased, 1 short, hek none, \
+[FFFFFFFF, FFFFFFFF, FFFFFFFF, FFFFFFFF, FFFFFFFF, FFFFFFE0]
 case 6, mark 00 on cell 0: erasure cut at 0, low 59 bits: cut, burns 1; \
-programmed, 3 short, hek 0, [1, 0, 0, 0, FFFFFFFF, 7FFFFFF]
+torn, 3 short, hek none, [1, 0, 0, 0, FFFFFFFF, 7FFFFFF]
 case 6, mark 00 on cell 0: erasure cut at 0, low 60 bits: cut, burns 1; \
 torn, 2 short, hek none, [1, 0, 0, 0, FFFFFFFF, FFFFFFF]
 case 7, mark 00 on cell 0: erasure cut at 1, low 32 bits: cut, burns 2; \

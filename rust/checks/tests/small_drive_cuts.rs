@@ -1,17 +1,19 @@
 //! Document 01, "The small drive": every cut of the slot's erasure, at every burn and past the
 //! last one, with every single fuse and every number of low fuses burned, on the drives of cases 2
-//! to 5. What follows a cut is played as a history, so that every clause of demand 3 is checked,
-//! and every call is compared with the model.
+//! to 5, and where every fuse of the indicator is stuck, or all but one. What follows a cut is played
+//! as a history, so that every clause of demand 3 is checked, and every call is compared with the
+//! model.
 
 use checks::calls::commands::low_bits;
 use checks::calls::requests;
 use checks::histories::{all_hold, Attempt, History};
-use checks::small::{self, SLOT};
+use checks::small::{self, INDICATOR_STUCK, SLOT};
 use model::{Call, Cut, Erase};
 use sciambrunola::BLOCK_BYTES;
 
-/// The marked cell and its mark: none, then cases 3, 4 and 5.
-const STUCK: [(usize, u32); 4] = [(0, 0), (1, 0x0F), (1, 0x1F), (5, 0x1F)];
+/// Stuck fuses, by cells and their marks: none; cases 3, 4 and 5; the indicator's.
+const STUCK: [&[(usize, u32)]; 6] =
+    [&[], &[(1, 0x0F)], &[(1, 0x1F)], &[(5, 0x1F)], INDICATOR_STUCK, &[(4, u32::MAX), (5, !0x100)]];
 
 /// The slot's erasure has burns 0 to 2.
 const KS: [u32; 8] = [0, 1, 2, 3, 4, 256, 0x1_0000, u32::MAX];
@@ -40,13 +42,13 @@ fn lists(cut: Cut) -> Vec<Vec<Attempt>> {
 #[test]
 fn every_cut_of_the_small_drive_keeps_demand_3_and_is_the_models() {
     let mut histories = Vec::new();
-    for (cell, mark) in STUCK {
+    for marks in STUCK {
         for cut in KS.into_iter().flat_map(|k| masks().map(move |mask| Cut { k, mask })) {
-            let start = small::marked(cell, mark).drive;
+            let start = small::stuck(marks).drive;
             let of = |attempts| History { start: start.clone(), partition: SLOT, attempts };
             histories.extend(lists(cut).into_iter().map(of));
         }
     }
-    assert_eq!(histories.len(), 4 * 8 * 129 * 4);
+    assert_eq!(histories.len(), 6 * 8 * 129 * 4);
     all_hold(histories.len(), |number| histories[number].clone());
 }

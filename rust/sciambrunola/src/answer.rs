@@ -20,17 +20,20 @@ pub enum Answer {
 }
 
 /// What an erasure answers.
-#[must_use = "an erasure that ended has erased the partition only if no pair is short"]
+#[must_use = "that it ended is not enough: it erased only if no pair but the indicator is short"]
 #[derive(Clone, Copy, Debug, PartialEq, Eq)]
 pub enum Erasure {
     /// Ran to its end: every fuse of the partition that is not stuck is set.
     ///
-    /// The partition is erased only if `short_pairs` is 0; otherwise it is torn,
-    /// and its seed may still be there.
+    /// The partition is erased only if `short_pairs` is 0, or `first_short` is the
+    /// indicator's cell: the indicator is the last pair, so that no other is short then.
+    /// Otherwise it is torn, and its seed may still be there. With the fields of
+    /// [`partition`](crate::partition) the indicator's cell is `first + length - 2`.
     Ended {
-        /// The pairs with fewer ones than the map's bound.
+        /// The pairs with fewer ones than the map's bound, those of digest and
+        /// indicator included.
         short_pairs: u32,
-        /// The first cell of the lowest of them, none if there is none.
+        /// The first cell of the lowest of them, in the whole array; none if there is none.
         first_short: Option<u32>,
         /// The burns carried out, one for each word.
         burns: u32,
@@ -40,12 +43,12 @@ pub enum Erasure {
         /// The burns carried out, the one that was cut included.
         burns: u32,
     },
-    /// Refused; nothing has changed, unless the number is 15: then the fuses
-    /// of the indicator that are not stuck are set, and nothing else has changed.
+    /// Refused; nothing has changed.
     Refused {
         /// The refusal's number.
         number: u32,
-        /// The burns carried out: 1 if the number is 15, else 0.
+        /// The burns carried out: 1 if the number is 15, that of the indicator, which
+        /// set no fuse; else 0.
         burns: u32,
     },
 }
@@ -81,8 +84,7 @@ pub enum Order {
 #[must_use = "a command may be refused, and the engine has to be given its order"]
 #[derive(Clone, Copy, Debug, PartialEq, Eq)]
 pub enum Reply {
-    /// Refused with this number; nothing has changed, unless the number is 15
-    /// (see [`Erasure::Refused`]).
+    /// Refused with this number; nothing has changed.
     Refused(u32),
     /// Carried out.
     Accepted {

@@ -2,7 +2,7 @@
 
 /// The version of the header and of the archive: it grows by one whenever something
 /// changes for a caller (`docs/CHANGES.md`).
-pub const VERSION: u32 = 7;
+pub const VERSION: u32 = 8;
 /// The bytes of the engine block.
 pub const BLOCK_BYTES: usize = 128;
 /// The bytes of the shortest response buffer that is accepted.
@@ -86,8 +86,9 @@ pub mod refusal {
     pub const NO_PLACE: u32 = 13;
     /// KUNL, tag not held.
     pub const TAG_NOT_HELD: u32 = 14;
-    /// The indicator is short after its burn, and stays burned.
-    pub const INDICATOR_SHORT: u32 = 15;
+    /// The erasure's indicator has no set fuse after its burn: every one is stuck. The
+    /// erasure stops before the data.
+    pub const INDICATOR_UNSET: u32 = 15;
     /// The map's text has not its form, or the buffer for the image is too short.
     pub const TEXT: u32 = 16;
 }

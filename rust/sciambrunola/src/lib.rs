@@ -3,10 +3,10 @@
 //! its fuses, the erasure of a partition, the key cache of 16 places, and the mailbox.
 //!
 //! Every function answers for any bytes and any lengths, and a refusal changes
-//! nothing that is lent, save that 15 leaves the indicator burned. The refusal
-//! numbers (see [`refusal`]), the fields of the requests, the text of a map and the
-//! lengths are those of documents 01 and 02; `include/sciambrunola.h` has them in short. The
-//! work itself is done by the proved archive; here are only the types that make its calls safe.
+//! nothing that is lent. The refusal numbers (see [`refusal`]), the fields of the
+//! requests, the text of a map and the lengths are those of documents 01 and 02;
+//! `include/sciambrunola.h` has them in short. The work itself is done by the proved
+//! archive; here are only the types that make its calls safe.
 //!
 //! It has no memory of its own: what it keeps between calls is in a [`Context`],
 //! which is the caller's.
@@ -47,7 +47,7 @@ pub enum Command {
         /// The word's first cell.
         cell: u32,
     },
-    /// Burns a value into a data word.
+    /// Burns a value into a data word, but for a marked partition (see [`State`]).
     Write {
         /// The word's first cell.
         cell: u32,
@@ -128,9 +128,9 @@ pub fn direct(
 /// Erases the partition of this number: burns every fuse of it that is not
 /// stuck, the indicator first, then the data words ascending, then the digest.
 ///
-/// A short word does not stop it; a short indicator does, with refusal 15, which
-/// leaves the indicator burned. Any other refusal changes nothing. The context
-/// stays as it is.
+/// A short word does not stop it, nor does a short indicator. An indicator without a
+/// set fuse does, with refusal 15: every fuse of it is stuck. That changes nothing, as
+/// any refusal. The context stays as it is.
 ///
 /// It may end with the partition torn: see [`Erasure::Ended`].
 #[inline]
@@ -178,8 +178,9 @@ pub fn restart(context: &mut Context) {
 /// An accepted command writes its response to the start of `response` and,
 /// where it has an order for the engine, the engine block to `block`. Nothing
 /// else changes but the key cache and, by FERS, which is [`erase`], the cells; and
-/// nothing at all on refusal, 15 excepted. FERS that is accepted has erased the
-/// partition only if the response's short pairs are 0.
+/// nothing at all on refusal. FERS that is accepted has erased the partition only if
+/// the response's short pairs are 0, or its first short cell is the indicator's
+/// (see [`Erasure::Ended`]).
 #[allow(clippy::too_many_arguments)]
 #[inline]
 pub fn mailbox(

@@ -17,13 +17,14 @@ pub enum Reason {
         /// The active slot's partition.
         partition: u32,
     },
-    /// The active slot is torn: it counts as zeroized, and some pair of it is short.
-    /// Its seed may still be there.
+    /// The active slot is torn: its indicator has a set fuse, and some other pair of it
+    /// is short. Its seed may still be there.
     Torn {
         /// The active slot's partition.
         partition: u32,
         /// The first cell, in the whole array, of its first short pair, which is the
-        /// lowest with fewer ones than the map's bound, in its data or its digest.
+        /// lowest with fewer ones than the map's bound, in its data or its digest. It is
+        /// never the indicator's, which may be short too.
         cell: u32,
         /// That pair's ones.
         ones: u32,

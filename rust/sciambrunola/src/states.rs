@@ -1,4 +1,4 @@
-//! The states of a drive's partitions (document 01, "Burning and counting").
+//! The states of a drive's partitions (document 01, "Burning and counting"; document 02, P4).
 
 use crate::constants::PARTITIONS;
 use crate::raw;
@@ -14,17 +14,18 @@ pub enum States {
     Refused(u32),
 }
 
-/// The state of a partition.
+/// The state of a partition. It is marked when it is zeroizable and its indicator has
+/// at least one set fuse.
 #[must_use]
 #[derive(Clone, Copy, Debug, PartialEq, Eq)]
 pub enum State {
-    /// Counted as zeroized, no pair short.
+    /// Marked, no pair but the indicator short. The indicator may be.
     Erased,
-    /// Counted as zeroized, some pair short.
+    /// Marked, some other pair short.
     Torn,
-    /// Not counted, every data cell zero.
+    /// Not marked, every data cell zero.
     Blank,
-    /// Not counted, some data fuse set.
+    /// Not marked, some data fuse set.
     Programmed,
 }
 
@@ -70,8 +71,8 @@ impl Listing {
     }
 
     /// The state of the partition of this number, and how many of its pairs are
-    /// short, those of digest and indicator included. None if there is no such
-    /// partition.
+    /// short, those of digest and indicator included: an erased one has 0, or 1 where
+    /// its indicator is short. None if there is no such partition.
     #[must_use]
     pub fn get(&self, partition: u32) -> Option<(State, u32)> {
         let place = (partition < self.partitions).then_some(partition as usize)?;

@@ -1,6 +1,7 @@
 //! What a power failure leaves: the erasure of the small drive's slot, cut at each of its burns
 //! with several parts of the word burned, and erased again. Played on the proved key block, on the
-//! drives of cases 2, 4 and 5 of document 01, "The small drive".
+//! drives of cases 2, 4 and 5 of document 01, "The small drive". The slot that is erased again is
+//! erased where no pair is short, or the indicator's, at cell 4, is the first; otherwise it is torn.
 
 use checks::calls::commands::low_bits;
 use checks::small::{self, SLOT};
@@ -13,21 +14,21 @@ const MASKS: [(&str, u32); 5] =
     [("none", 0), ("low 32", 32), ("low 59", 59), ("low 60", 60), ("all 64", 64)];
 
 fn main() {
-    table("no stuck fuse", (0, 0));
-    table("mark 1F on cell 1: word 0 cannot have more than 59 ones", (1, 0x1F));
-    table("mark 1F on cell 5: the indicator cannot have more than 59 ones", (5, 0x1F));
+    table("no stuck fuse", &[]);
+    table("mark 1F on cell 1: word 0 cannot have more than 59 ones", &[(1, 0x1F)]);
+    table("mark 1F on cell 5: the indicator cannot have more than 59 ones", &[(5, 0x1F)]);
 }
 
 /// A header, and a line for each burn and mask.
-fn table(drive: &str, (cell, mark): (usize, u32)) {
+fn table(drive: &str, marks: &[(usize, u32)]) {
     println!("small drive, bound 60, {drive}");
     let names = ["burn", "word", "mask", "answer", "word after", "state", "short", "hek"];
     println!("{} erased again", row(names));
-    let map = small::marked(cell, mark).drive.map().expect("the small drive's map is good");
+    let map = small::stuck(marks).drive.map().expect("the small drive's map is good");
     for (k, word) in (0..).zip(order(&map, SLOT as usize)) {
         for (name, bits) in MASKS {
             let cut = Cut { k, mask: low_bits(bits) };
-            println!("{}", line(small::marked(cell, mark), cut, word, name));
+            println!("{}", line(small::stuck(marks), cut, word, name));
         }
     }
 }
@@ -48,5 +49,5 @@ fn line(mut lent: Lent, cut: Cut, (cell, word): (usize, Word), mask: &str) -> St
 }
 
 fn row([k, word, mask, answer, after, state, short, hek]: [&str; 8]) -> String {
-    format!("{k:<4} {word:<11} {mask:<6} {answer:<19} {after:<16} {state:<10} {short:<5} {hek:<4}")
+    format!("{k:<4} {word:<11} {mask:<6} {answer:<12} {after:<16} {state:<10} {short:<5} {hek:<4}")
 }

@@ -3,7 +3,7 @@
 
 use checks::calls::commands::low_bits;
 use checks::proved::Proved;
-use checks::small::{erase, marked, response, slot, text};
+use checks::small::{erase, response, slot, stuck, text};
 use model::{Call, Cut, KeyBlock, Lent, Mail, Reply, Request, Said, Values};
 use Ask::{CutAt, Erase, Send};
 
@@ -21,7 +21,7 @@ enum Ask {
 const FERS_0: Ask = Send(Mail::Fers, 0);
 const FSTA: Ask = Send(Mail::Fsta, 0);
 
-/// The number of the case, the marked cell and its mark, and what is asked for.
+/// The number of the case, a cell and the mark on it, and what is asked for.
 const CASES: [(usize, (usize, u32), &[Ask]); 12] = [
     (1, (0, 0), &[FSTA]),
     (2, (0, 0), &[FERS_0]),
@@ -39,13 +39,13 @@ const CASES: [(usize, (usize, u32), &[Ask]); 12] = [
 
 fn main() {
     for (number, (cell, mark), asked) in CASES {
-        let mut lent = marked(cell, mark);
+        let mut lent = stuck(&[(cell, mark)]);
         for ask in asked {
             println!("case {number}, mark {mark:02X} on cell {cell}: {}", line(&mut lent, *ask));
         }
     }
     // Sixteen loads and a seventeenth, a held tag, place 3's tag unloaded, a load.
-    let mut lent = marked(0, 0);
+    let mut lent = stuck(&[]);
     let mut load = |command, tag| println!("case 10: {}", line(&mut lent, Send(command, tag)));
     (100..117).for_each(|tag| load(Mail::Klod, tag));
     load(Mail::Klod, 107);

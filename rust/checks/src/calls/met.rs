@@ -6,8 +6,8 @@ use crate::layout::Layout;
 use crate::tally::{self, Row};
 use model::Reason::{Blank, Torn};
 use model::{
-    fuse, Call, Command, Cut, Entry, Erase, Erasure, Lent, Order, Part, Partition, Refusal, Reply,
-    Said, Size, Word, LIFE_CYCLE,
+    fuse, Call, Command, Cut, Entry, Erase, Erasure, Lent, Order, Part, Refusal, Reply, Said, Size,
+    Word, LIFE_CYCLE,
 };
 
 /// The refusals that can apply to one call together with another, which is a higher one but for
@@ -35,11 +35,15 @@ const FORBIDDEN: &[Row<Forbids>] = &[
     ("the digest", |named, _| named.word.part == Part::Digest),
     ("the indicator", |named, _| named.word.part == Part::Indicator),
     ("life cycle", |named, _| named.entry.kind == LIFE_CYCLE),
-    ("counted as zeroized", |named, _| named.counted),
+    ("a partition counted as zeroized", |named, _| named.counted),
+    ("one that is marked, and not counted", |named, _| named.weakly_marked),
     ("over 32 bits", |named, value| named.word.size == Size::Cell && value > 0xFFFF_FFFF),
 ];
 
 type Sight = fn(&Seen) -> bool;
+
+/// What is asked of a partition and of the cells that a call leaves.
+type Holds = fn(&Layout, &[u32]) -> bool;
 
 const SIGHTS: &[Row<Sight>] = &[
     ("secret word shown at B", |s| s.came == "ZEROIZE word" && s.word(true, 0)),
@@ -58,16 +62,20 @@ const SIGHTS: &[Row<Sight>] = &[
         s.came == "FSTA none" && s.after.response[12] != 0xFF && s.after.response[16] == 0
     }),
     ("FSTA with the HEK", |s| s.came == "FSTA none" && s.after.response[16] == 1),
-    ("erased with the indicator at B", |s| s.erased() && s.past_bound() == Some(0)),
-    ("erased with a short pair", |s| s.erased() && s.names(|p, s| p.some_short(s.cells()))),
-    ("erasure of a torn partition", |s| {
-        s.erased() && s.names(|p, s| p.torn(&s.before.drive.cells))
+    ("ended with the indicator at B", |s| s.ends(|p, cells| p.past_bound(cells) == 0)),
+    ("ended with the indicator at B - 1", |s| s.ends(|p, cells| p.past_bound(cells) == -1)),
+    ("ended with the indicator at 1", |s| s.ends(|p, cells| p.indicator_ones(cells) == 1)),
+    ("ended torn", |s| s.ends(Layout::torn)),
+    ("ended torn, the indicator short too", |s| s.ends(weakly_torn)),
+    ("ended erased, the indicator alone short", |s| s.ends(weakly_erased)),
+    ("ended from torn", |s| {
+        let torn = |p: &Layout| p.torn(&s.before.drive.cells);
+        s.ends(|_, _| true) && s.partition().map_or(false, torn)
     }),
-    ("15 with the indicator at B - 1", |s| {
-        s.said.refusal() == Some(15) && s.past_bound() == Some(-1)
-    }),
-    ("indicator cut at B", |s| s.cuts_indicator() && s.past_bound() == Some(0)),
-    ("indicator cut at B - 1", |s| s.cuts_indicator() && s.past_bound() == Some(-1)),
+    ("indicator cut at B", |s| s.cuts_indicator(|p, cells| p.past_bound(cells) == 0)),
+    ("indicator cut at B - 1", |s| s.cuts_indicator(|p, cells| p.past_bound(cells) == -1)),
+    ("indicator cut at 1", |s| s.cuts_indicator(|p, cells| p.indicator_ones(cells) == 1)),
+    ("indicator cut at 0", |s| s.cuts_indicator(|p, cells| p.indicator_ones(cells) == 0)),
     ("32-bit word cut with a mask over 32 bits", |s| s.came == "cut erasure cut" && s.narrow()),
     ("cut with a key held", |s| s.came == "cut erasure cut" && s.before.cache.any_held()),
     ("cut past the end with a key held", |s| {
@@ -78,8 +86,11 @@ const SIGHTS: &[Row<Sight>] = &[
     ("states: torn", |s| s.lists(1)),
     ("states: blank", |s| s.lists(2)),
     ("states: programmed", |s| s.lists(3)),
-    ("states: indicator at B", |s| s.lists_indicator(0)),
-    ("states: indicator at B - 1", |s| s.lists_indicator(-1)),
+    ("states: indicator at B", |s| s.lists_some(|p, cells| p.past_bound(cells) == 0)),
+    ("states: indicator at B - 1", |s| s.lists_some(|p, cells| p.past_bound(cells) == -1)),
+    ("states: indicator at 1", |s| s.lists_some(|p, cells| p.indicator_ones(cells) == 1)),
+    ("states: erased, the indicator alone short", |s| s.lists_some(weakly_erased)),
+    ("states: torn, the indicator short too", |s| s.lists_some(weakly_torn)),
     ("fields: more than 255 cells", |s| matches!(s.said, Said::Fields([.., 256..=2048, _, _]))),
     ("states: more than 255 short pairs", |s| {
         let mut listed = s.after.short_pairs.iter().take(s.partitions.len());
@@ -88,12 +99,25 @@ const SIGHTS: &[Row<Sight>] = &[
     ("states: refused with 1 where 2 applies", |s| {
         s.came == "states refused 1" && s.applying.len() == 2
     }),
-    ("why: an erased slot passed over", |s| s.passes_over()),
-    ("why: torn at B - 1", |s| s.torn(|p, _, ones| ones + 1 == p.bound)),
-    ("why: torn at 0", |s| s.torn(|_, _, ones| ones == 0)),
-    ("why: torn at the digest", |s| s.torn(|p, cell, _| cell + 2 == p.indicator().start)),
+    ("why: an erased slot passed over", |s| s.passes_over(Layout::erased)),
+    ("why: one with a short indicator passed over", |s| s.passes_over(weakly_erased)),
+    ("why: torn at B - 1", |s| s.torn(|p, (_, ones), _| ones + 1 == p.bound)),
+    ("why: torn at 0", |s| s.torn(|_, (_, ones), _| ones == 0)),
+    ("why: torn at the digest", |s| s.torn(|p, (cell, _), _| cell == p.digest())),
+    ("why: torn, the indicator short too", |s| s.torn(|p, _, cells| weakly_torn(p, cells))),
+    ("why: torn at the digest, the indicator short too", |s| {
+        s.torn(|p, (cell, _), cells| cell == p.digest() && weakly_torn(p, cells))
+    }),
     ("why: refused with 1 where 2 applies", |s| s.came == "why refused 1" && s.applying.len() == 2),
 ];
+
+fn weakly_erased(partition: &Layout, cells: &[u32]) -> bool {
+    partition.erased(cells) && partition.weakly_marked(cells)
+}
+
+fn weakly_torn(partition: &Layout, cells: &[u32]) -> bool {
+    partition.torn(cells) && partition.weakly_marked(cells)
+}
 
 /// Everything that a run has to meet.
 pub fn possible() -> Vec<String> {
@@ -131,8 +155,9 @@ struct Named {
     word: Word,
     stands: u64,
     past_bound: i64,
-    /// Whether its partition is counted as zeroized.
+    /// Whether its partition is counted as zeroized, or marked all the same.
     counted: bool,
+    weakly_marked: bool,
 }
 
 impl<'a> Seen<'a> {
@@ -179,29 +204,26 @@ impl<'a> Seen<'a> {
         }
     }
 
-    fn erased(&self) -> bool {
-        matches!(self.said, Said::Erasure(Erasure::Erased { .. }))
+    /// Whether an erasure has ended, and left its partition so that this holds.
+    fn ends(&self, holds: Holds) -> bool {
+        matches!(self.said, Said::Erasure(Erasure::Erased { .. })) && self.leaves(holds)
     }
 
-    fn cuts_indicator(&self) -> bool {
-        matches!(self.said, Said::Erasure(Erasure::Cut { burns: 1 }))
+    /// The same of one that was cut at its indicator.
+    fn cuts_indicator(&self, holds: Holds) -> bool {
+        matches!(self.said, Said::Erasure(Erasure::Cut { burns: 1 })) && self.leaves(holds)
     }
 
-    /// Whether this holds of the partition that an erasure names.
-    fn names(&self, holds: fn(&Layout, &Seen) -> bool) -> bool {
-        self.partition().map_or(false, |partition| holds(partition, self))
+    fn leaves(&self, holds: Holds) -> bool {
+        self.partition().map_or(false, |partition| holds(partition, self.cells()))
     }
 
+    /// The partition that an erasure names.
     fn partition(&self) -> Option<&Layout> {
         match self.call {
             Call::Erase(erase) => self.partitions.get(erase.partition as usize),
             _ => None,
         }
-    }
-
-    /// By how many ones its indicator passes the bound after the call.
-    fn past_bound(&self) -> Option<i64> {
-        self.partition().map(|partition| partition.past_bound(self.cells()))
     }
 
     fn cells(&self) -> &[u32] {
@@ -224,27 +246,30 @@ impl<'a> Seen<'a> {
         matches!(self.call, Call::States) && listed.contains(&state)
     }
 
-    /// Whether some indicator of the list passes the bound by so many ones.
-    fn lists_indicator(&self, ones: i64) -> bool {
-        let at = |p: &Layout| p.zeroizable && p.past_bound(self.cells()) == ones;
-        matches!(self.call, Call::States) && self.partitions.iter().any(at)
+    /// Whether this holds of some zeroizable partition of the list.
+    fn lists_some(&self, holds: Holds) -> bool {
+        let some = |p: &Layout| p.zeroizable && holds(p, self.cells());
+        matches!(self.call, Call::States) && self.partitions.iter().any(some)
     }
 
-    /// Whether a slot lies before the one that a reason names.
-    fn passes_over(&self) -> bool {
+    /// Whether this holds of some slot before the one that a reason names.
+    fn passes_over(&self, holds: Holds) -> bool {
         match (self.said, self.after.drive.map()) {
             (Said::Reason(Ok(Blank { partition } | Torn { partition, .. })), Some(map)) => {
-                map.entries()[..partition as usize].iter().any(Entry::slot)
+                let mut before =
+                    map.entries().iter().zip(&self.partitions).take(partition as usize);
+                before.any(|(entry, p)| entry.slot() && holds(p, self.cells()))
             }
             _ => false,
         }
     }
 
-    /// Whether this holds of a torn slot that a reason names, and of its pair's cell and ones.
-    fn torn(&self, holds: fn(&Layout, usize, u32) -> bool) -> bool {
+    /// Whether this holds of a torn slot that a reason names, of its pair's cell and ones, and of
+    /// the cells.
+    fn torn(&self, holds: fn(&Layout, (usize, u32), &[u32]) -> bool) -> bool {
         match self.said {
             Said::Reason(Ok(Torn { partition, cell, ones })) => {
-                holds(&self.partitions[partition as usize], cell as usize, ones)
+                holds(&self.partitions[partition as usize], (cell as usize, ones), self.cells())
             }
             _ => false,
         }
@@ -256,6 +281,8 @@ fn named(command: Command, after: &Lent) -> Option<Named> {
     let word = map.word_at(command.cell())?;
     let stands = fuse::word(cells, command.cell(), word.size);
     let past_bound = i64::from(stands.count_ones()) - map.bound() as i64;
-    let counted = Partition::of(&map, word.partition, cells).counted_as_zeroized();
-    Some(Named { entry: map.entries()[word.partition], word, stands, past_bound, counted })
+    let entry = map.entries()[word.partition];
+    let partition = Layout::of(&after.drive, word.partition as u32)?;
+    let (counted, weakly_marked) = (partition.counted(cells), partition.weakly_marked(cells));
+    Some(Named { entry, word, stands, past_bound, counted, weakly_marked })
 }

@@ -1,9 +1,11 @@
-//! Demand 3 and document 01, "Attempts": each clause as a check of values, with
-//! nothing of the model that burns or counts; of its refusals only the map's rules.
+//! Demand 3 and document 01, "Attempts", and document 02, P4, on erasures: each clause as a check
+//! of values, with nothing of the model that burns or counts; of its refusals only the map's rules.
 
 use super::play::Step;
+use crate::small::response;
 use crate::tally::{self, Row};
-use model::{Call, Erasure, Reply, Said};
+use model::{Call, Cut, Erase, Erasure, Reply, Said};
+use sciambrunola::{LEAST_RESPONSE, NO_CELL};
 
 /// What a clause says of one attempt: whether it holds, or none where it asks for nothing.
 type Clause = fn(&Step) -> Option<bool>;
@@ -11,11 +13,11 @@ type Clause = fn(&Step) -> Option<bool>;
 /// The clauses and their names, each after the sentence that it checks.
 pub const ALL: &[Row<Clause>] = &[
     // "the partition is counted as zeroized, or every word but its indicator is as it
-    // was before the first attempt"
-    ("counted as zeroized, or all but the indicator as at the start", |s| {
+    // was before the first attempt", where P4 reads "marked" for "counted as zeroized"
+    ("marked, or all but the indicator as at the start", |s| {
         let partition = s.partition.as_ref().filter(|partition| partition.zeroizable)?;
         let others = partition.range.start..partition.indicator().start;
-        Some(partition.counted(s.cells()) || s.cells()[others.clone()] == s.start()[others])
+        Some(partition.marked(s.cells()) || s.cells()[others.clone()] == s.start()[others])
     }),
     ("no fuse outside the partition has changed", |s| {
         let (first, end) = s.partition.as_ref().map(|p| (p.range.start, p.range.end))?;
@@ -65,8 +67,24 @@ pub const ALL: &[Row<Clause>] = &[
         (!zeroizable && !s.is_restart()).then(|| refused_unchanged(s))
     }),
     // "Fuses, cache, block and response stay as they were"
-    ("any refusal but 15 changes nothing", |s| {
-        (s.said.refusal()? != 15).then(|| s.after == s.before)
+    ("a refusal changes nothing", |s| s.said.refusal().map(|_| s.after == s.before)),
+    // P4: "15 is given exactly when no indicator fuse is set after its burn". A lower refusal
+    // comes before it, and a cut of that burn does not ask.
+    ("15 exactly when no indicator fuse is set after its burn", |s| {
+        let mut indicator = s.partition.as_ref().filter(|p| p.zeroizable)?.indicator();
+        let (before, marks) = (&s.before.drive.cells, &s.history.start.marks);
+        let unset = indicator.all(|cell| before[cell] | !marks[cell] == 0);
+        let lower = s.said.refusal().map_or(false, |number| number < 15);
+        let asked = !s.is_restart() && !lower;
+        asked.then(|| (s.said.refusal() == Some(15)) == (unset && !s.cuts_indicator()))
+    }),
+    // P4: "Erased now means marked with no short pair besides the indicator", which is the last
+    // pair, so that it is the lowest short one exactly if no other is short.
+    ("ended, it is erased exactly if none is short, or the indicator first", |s| {
+        let ([short_pairs, first_short], partition) = (s.told()?, s.partition.as_ref()?);
+        let indicator = partition.indicator().start as u32;
+        let passes = short_pairs == 0 || first_short == indicator;
+        Some(partition.erased(s.cells()) == passes)
     }),
     ("bytes past the response keep their values", |s| {
         let [after, before] = [&s.after, &s.before].map(|l| l.response.get(response_length(s)..));
@@ -104,6 +122,26 @@ impl Step<'_> {
     fn keeps(&self, earlier: &[u32]) -> bool {
         let mut cells = earlier.iter().zip(self.cells());
         earlier.len() == self.cells().len() && cells.all(|(earlier, now)| earlier & !now == 0)
+    }
+
+    /// Whether the call is for a cut of the first burn.
+    fn cuts_indicator(&self) -> bool {
+        matches!(self.call, Call::Erase(Erase { cut: Some(Cut { k: 0, .. }), .. }))
+    }
+
+    /// Of an attempt that ran to its end: the short pairs and the first short cell that it answers,
+    /// FERS by its response.
+    fn told(&self) -> Option<[u32; 2]> {
+        match self.said {
+            Said::Erasure(Erasure::Erased { short_pairs, first_short, .. }) => {
+                Some([short_pairs, first_short.unwrap_or(NO_CELL)])
+            }
+            Said::Reply(Reply::Accepted { .. }) => {
+                let fields = response(&self.after, LEAST_RESPONSE);
+                Some([fields[3], fields[4]])
+            }
+            _ => None,
+        }
     }
 
     /// Of a cut: "the first k burns are whole, the burn numbered k has the mask (its

@@ -49,28 +49,46 @@ type Sight = fn(&Step) -> bool;
 
 /// Things that are to happen though no clause names them.
 const SIGHTS: &[Row<Sight>] = &[
-    ("erased by the library's call", |s| s.completes && s.call.name() == "erasure"),
-    ("erased by FERS", |s| s.completes && s.call.name() == "FERS"),
-    ("erased by a cut past the end", |s| s.completes && s.call.name() == "cut erasure"),
-    ("erased with a short pair", |s| s.completes && s.leaves(Layout::some_short)),
-    ("erased with the indicator at B", |s| s.completes && s.past_bound() == Some(0)),
-    ("erased after a cut", |s| s.completes && s.past.cut),
-    ("erased after a cut that tore it", |s| s.completes && s.past.torn),
-    ("erased again", |s| s.completes && s.past.completed),
+    ("ended by the library's call", |s| s.completes && s.call.name() == "erasure"),
+    ("ended by FERS", |s| s.completes && s.call.name() == "FERS"),
+    ("ended by a cut past the end", |s| s.completes && s.call.name() == "cut erasure"),
+    ("ended with the indicator at B", |s| s.completes && s.past_bound() == Some(0)),
+    ("ended with the indicator at B - 1", |s| s.completes && s.past_bound() == Some(-1)),
+    ("ended with no fuse of the indicator stuck", |s| s.completes && s.stuck() == 0),
+    ("ended by one indicator fuse, which burned", |s| {
+        s.completes && s.indicator_ones(s.start()) == 0 && s.indicator_ones(s.cells()) == 1
+    }),
+    ("ended by indicator fuses set at the start, each of it stuck", |s| {
+        s.completes && s.stuck() == 64
+    }),
+    ("ended erased, the indicator alone short", |s| {
+        s.completes && s.leaves(Layout::erased) && s.leaves(Layout::weakly_marked)
+    }),
+    ("ended torn", |s| s.completes && s.leaves(Layout::torn)),
+    ("ended torn, the indicator short too", |s| {
+        s.completes && s.leaves(Layout::torn) && s.leaves(Layout::weakly_marked)
+    }),
+    ("ended after a cut", |s| s.completes && s.past.cut),
+    ("ended after a cut that tore it", |s| s.completes && s.past.torn),
+    ("ended again", |s| s.completes && s.past.completed),
     ("cut at the indicator", |s| s.cut_at(|k, _| k == 0)),
     ("cut at a data word", |s| s.cut_at(|k, digest| 0 < k && k < digest)),
     ("cut at the digest", |s| s.cut_at(|k, digest| k == digest)),
     ("cut that tore it", |s| s.cut.is_some() && s.tears()),
-    ("cut that burned the indicator in part and left it short", |s| {
-        s.cut.is_some() && s.burns_indicator() && !s.leaves(Layout::counted)
+    ("cut that tore it by a part of the indicator", |s| {
+        s.cut.is_some() && s.tears() && s.leaves(Layout::weakly_marked)
+    }),
+    ("cut at the indicator that left it unmarked", |s| {
+        s.cut_at(|k, _| k == 0) && !s.leaves(Layout::marked)
     }),
     ("cut that set no fuse", |s| s.cut.is_some() && s.before.drive.cells == s.after.drive.cells),
-    ("cut after it was erased", |s| s.cut.is_some() && s.past.completed),
-    ("15 with the indicator at B - 1", |s| {
-        s.said.refusal() == Some(15) && s.past_bound() == Some(-1)
+    ("cut after it had ended", |s| s.cut.is_some() && s.past.completed),
+    ("15 where each fuse of the indicator is stuck and others would burn", |s| {
+        s.stopped() && s.stuck() == 64 && s.would_burn()
     }),
-    ("15 by FERS", |s| s.said.refusal() == Some(15) && s.call.name() == "FERS"),
-    ("15 after a cut", |s| s.said.refusal() == Some(15) && s.past.cut),
+    ("15 by FERS", |s| s.stopped() && s.call.name() == "FERS"),
+    ("15 of a cut", |s| s.stopped() && s.call.name() == "cut erasure"),
+    ("15 after a cut", |s| s.stopped() && s.past.cut),
     ("refused up to 8 after a cut", |s| {
         s.past.cut && s.said.refusal().map_or(false, |number| number <= 8)
     }),
@@ -119,16 +137,31 @@ impl Step<'_> {
         self.partition.as_ref().map(|p| p.past_bound(self.cells()))
     }
 
+    /// The ones of the indicator in these cells, or in the marks; 0 without a partition.
+    fn indicator_ones(&self, of: &[u32]) -> u32 {
+        self.partition.as_ref().map_or(0, |p| p.indicator_ones(of))
+    }
+
+    /// The stuck fuses of the indicator.
+    fn stuck(&self) -> u32 {
+        self.indicator_ones(&self.history.start.marks)
+    }
+
+    fn stopped(&self) -> bool {
+        self.said.refusal() == Some(15)
+    }
+
+    /// Whether some fuse of the partition is neither set nor stuck.
+    fn would_burn(&self) -> bool {
+        let marks = &self.history.start.marks;
+        let burns = |cell: usize| self.cells()[cell] | marks[cell] != u32::MAX;
+        self.partition.as_ref().map_or(false, |p| p.range.clone().any(burns))
+    }
+
     /// Whether this holds of a cut's k and of the number of the digest's burn.
     fn cut_at(&self, holds: fn(usize, usize) -> bool) -> bool {
         let at = self.partition.as_ref().zip(self.cut);
         at.map_or(false, |(p, cut)| holds(cut.k as usize, p.order().len() - 1))
-    }
-
-    fn burns_indicator(&self) -> bool {
-        let before = &self.before.drive.cells;
-        let changed = |p: &Layout| before[p.indicator()] != self.cells()[p.indicator()];
-        self.partition.as_ref().map_or(false, changed)
     }
 
     /// Whether the attempt left the partition torn, and did not find it so.

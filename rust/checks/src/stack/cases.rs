@@ -5,7 +5,7 @@
 
 use crate::calls::requests::fers;
 use crate::largest::{self, LAST, SHARE, TAIL};
-use crate::small::{self, MAP_TEXT, SLOT};
+use crate::small::{self, INDICATOR_STUCK, MAP_TEXT, SLOT};
 use crate::{lent, texts};
 use model::Command::{Read, Write, Zeroize};
 use model::Mail::{Clkc, Fsta, Klod, Kunl};
@@ -31,10 +31,10 @@ const OTHER_TAG: u64 = LAST_TAG + 1;
 /// A software word of the small drive, which READ and WRITE may touch.
 const SOFTWARE_WORD: u32 = 6;
 
-/// Marks that keep a word short, and the cells from a word to its zeroizable partition's end.
-const SHORT: u32 = 0x1F;
-const DIGEST: usize = TAIL;
-const INDICATOR: usize = 2;
+/// Marks that keep the digest short, and those that let no fuse of the indicator be set; each with
+/// its cell, counted back from the end of a zeroizable partition.
+const DIGEST_SHORT: &[(usize, u32)] = &[(TAIL, 0x1F)];
+const INDICATOR_UNSET: &[(usize, u32)] = &[(2, u32::MAX), (1, u32::MAX)];
 
 /// All of them, in the order of the table's rows.
 pub fn all() -> Vec<Case> {
@@ -48,7 +48,7 @@ fn case(comes_to: &'static str, lent: Lent, call: Call) -> Case {
 
 /// The small drive with these tags held.
 fn small(tags: impl IntoIterator<Item = u64>) -> Lent {
-    lent::holding(small::marked(0, 0), tags)
+    lent::holding(small::stuck(&[]), tags)
 }
 
 /// The largest map, of slots alone, with these tags held.
@@ -63,12 +63,13 @@ fn beside_slots(kind: u8) -> Lent {
 }
 
 /// What can be erased on the largest map: the last slot with no key held, and partitions that are
-/// no slots, of pairs and of single cells, with every place held. One word of each stays short:
-/// with the digest the lowest short pair is found after all data, with the indicator 15 is given.
-fn to_erase(short: usize) -> [(Lent, u32); 3] {
+/// no slots, of pairs and of single cells, with every place held; each with these fuses stuck. With
+/// a short digest the lowest short pair is found after all data, with an unset indicator 15 is given.
+fn to_erase(stuck: &[(usize, u32)]) -> [(Lent, u32); 3] {
     [(large([]), LAST), (beside_slots(HARDWARE), 0), (beside_slots(SOFTWARE), 0)].map(
         |(mut lent, partition)| {
-            lent.drive.marks[(partition as usize + 1) * SHARE - short] = SHORT;
+            let end = (partition as usize + 1) * SHARE;
+            stuck.iter().for_each(|(back, mark)| lent.drive.marks[end - back] = *mark);
             (lent, partition)
         },
     )
@@ -114,11 +115,11 @@ fn erasures() -> Vec<Case> {
     let at = |k| Some(Cut { k, mask: 1 });
     let last_burn = SHARE as u32 / 2 - 1;
     let mut cases = vec![case("erasure erased", small([]), erase(SLOT, None))];
-    for (lent, partition) in to_erase(DIGEST) {
+    for (lent, partition) in to_erase(DIGEST_SHORT) {
         cases.push(case("erasure erased", lent, erase(partition, None)));
     }
     cases.push(case("cut erasure cut", small([]), erase(SLOT, at(2))));
-    for (lent, partition) in to_erase(DIGEST) {
+    for (lent, partition) in to_erase(DIGEST_SHORT) {
         cases.push(case("cut erasure cut", lent, erase(partition, at(last_burn))));
     }
     cases
@@ -175,13 +176,13 @@ fn kunl() -> Vec<Case> {
 
 fn by_fers() -> Vec<Case> {
     let mut cases = vec![mail("FERS none", small([]), fers(SLOT))];
-    for (lent, partition) in to_erase(DIGEST) {
+    for (lent, partition) in to_erase(DIGEST_SHORT) {
         cases.push(mail("FERS none", lent, fers(partition)));
     }
     cases.push(mail("FERS refused 10", small([1]), fers(SLOT)));
     cases.push(mail("FERS refused 10", large(ALL), fers(LAST)));
-    cases.push(mail("FERS refused 15", small::marked(5, SHORT), fers(SLOT)));
-    for (lent, partition) in to_erase(INDICATOR) {
+    cases.push(mail("FERS refused 15", small::stuck(INDICATOR_STUCK), fers(SLOT)));
+    for (lent, partition) in to_erase(INDICATOR_UNSET) {
         cases.push(mail("FERS refused 15", lent, fers(partition)));
     }
     cases

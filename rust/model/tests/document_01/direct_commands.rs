@@ -53,8 +53,8 @@ fn write_burns_a_data_word() {
     check(&lent, write(SEALED, value), Done, &[(22, 0xFF), (23, 0x8765_4321)]);
     check(&lent, write(SOFT, 0xFF), Word(0xFF), &[(12, 0xFF)]);
     check(&lent, write(SOFT, 0xFFFF_FFFF), Word(0xFFFF_FFFF), &[(12, ALL)]);
-    let marked = every_sort(&[(6, 0b001)], &[(6, 0b011)]);
-    check(&marked, write(PLAIN, 0b111), Word(0b101), &[(6, 0b101)]);
+    let stuck = every_sort(&[(6, 0b001)], &[(6, 0b011)]);
+    check(&stuck, write(PLAIN, 0b111), Word(0b101), &[(6, 0b101)]);
     // "Refused (8): digest (in kind 1 this is ours), indicator, life cycle, [...]
     // a value over 32 bits for a 32-bit word."
     for cell in [PLAIN + 2, PLAIN + 4, SOFT + 2, SOFT + 4, CYCLE] {

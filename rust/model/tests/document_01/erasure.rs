@@ -85,7 +85,7 @@ fn a_cut_past_the_end_runs_as_uncut() {
 }
 
 /// "Otherwise it goes on through short words"; in kind 1 too, two data cells
-/// are one pair. A short indicator is one more, and never the lowest.
+/// are one pair. A short indicator is one more, behind the others.
 #[test]
 fn short_words_do_not_stop_the_erasure_and_are_counted_in_pairs() {
     let marks = [(12, 0b11), (13, 0b111), (15, 0x1F)];
