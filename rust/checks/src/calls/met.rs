@@ -36,7 +36,7 @@ const FORBIDDEN: &[Row<Forbids>] = &[
     ("the indicator", |named, _| named.word.part == Part::Indicator),
     ("life cycle", |named, _| named.entry.kind == LIFE_CYCLE),
     ("a partition counted as zeroized", |named, _| named.counted),
-    ("one that is marked, and not counted", |named, _| named.weakly_marked),
+    ("a weakly marked partition", |named, _| named.weakly_marked),
     ("over 32 bits", |named, value| named.word.size == Size::Cell && value > 0xFFFF_FFFF),
 ];
 
