@@ -192,8 +192,8 @@ extern "C" {
 #define SCI_REFUSED 3
 
 /* sci_erasure.kind. SCI_ENDED says that the erasure ran to its end, and no more:
- * The partition is erased only if short_pairs is 0, or first_short is its indicator's
- * cell; otherwise it is torn, and its seed may still be there. */
+ * the partition is erased exactly if short_pairs is 0 or first_short is its
+ * indicator's cell; otherwise it is torn, and its seed may still be there. */
 #define SCI_ENDED 0
 #define SCI_CUT 1
 #define SCI_ERASURE_REFUSED 2
@@ -273,11 +273,11 @@ typedef struct {
     uint64_t word;    /* the word, 0 unless a word is answered */
 } sci_answer;
 
-/* What an erasure answers. Look at the kind first. SCI_ENDED: The partition is
- * erased only if short_pairs is 0, or first_short is its indicator's cell, which is
- * first + length - 2 by sci_partition: the indicator is the last pair, so that no other
- * is short then. Otherwise it is torn, and its seed may still be there. To ask for no
- * short pair at all fails good drives, to ask for SCI_ENDED alone passes torn ones. Cut
+/* What an erasure answers. Look at the kind first. SCI_ENDED: the partition is erased
+ * exactly if short_pairs is 0 or first_short is its indicator's cell, which is first +
+ * length - 2 by sci_partition: the indicator is the last pair, so that no other is
+ * short then. Otherwise it is torn, and its seed may still be there. To ask for no
+ * short pair at all fails good drives; to ask for SCI_ENDED alone passes torn ones. Cut
  * or refused, short_pairs is 0 and says nothing: sci_states does. */
 typedef struct {
     uint32_t kind;        /* SCI_ENDED, SCI_CUT or SCI_ERASURE_REFUSED */
@@ -421,7 +421,7 @@ sci_answer sci_zeroize(const uint8_t *image, size_t image_bytes,
  * indicator; an indicator without a set fuse does, with 15. Answers SCI_ENDED, the
  * short pairs that are left, those of digest and indicator included, the first cell
  * of the lowest of them, and the number of burns, one for each word.
- * The partition is erased only if short_pairs is 0, or first_short is its
+ * The partition is erased exactly if short_pairs is 0 or first_short is its
  * indicator's cell; otherwise it is torn, and its seed may still be there.
  * Asked for again, after a cut too, it begins at the indicator. It answers as
  * the first time, or as it would have if that one was cut, where no key is held
@@ -492,8 +492,8 @@ void sci_restart(sci_context *context);
  * block has the MEK, the tag in the first 8 bytes of METD, and zeros.
  * KUNL frees the lowest place that holds the tag; the engine is to unload, and
  * the block is as for a load with the MEK zero.
- * FERS is sci_erase of the partition that it names: it is erased only if the
- * response's short pairs are 0, or its first short cell is the indicator's;
+ * FERS is sci_erase of the partition that it names: it is erased exactly if the
+ * response's short pairs are 0 or its first short cell is the indicator's;
  * otherwise it is torn, and its seed may still be there. The block and the context
  * are unchanged, and there is no order for the engine.
  * FSTA changes nothing but the response; there is no order for the engine.

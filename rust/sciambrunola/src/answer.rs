@@ -25,7 +25,7 @@ pub enum Answer {
 pub enum Erasure {
     /// Ran to its end: every fuse of the partition that is not stuck is set.
     ///
-    /// The partition is erased only if `short_pairs` is 0, or `first_short` is the
+    /// The partition is erased exactly if `short_pairs` is 0 or `first_short` is the
     /// indicator's cell: the indicator is the last pair, so that no other is short then.
     /// Otherwise it is torn, and its seed may still be there. With the fields of
     /// [`partition`](crate::partition) the indicator's cell is `first + length - 2`.

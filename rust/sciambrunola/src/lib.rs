@@ -178,8 +178,8 @@ pub fn restart(context: &mut Context) {
 /// An accepted command writes its response to the start of `response` and,
 /// where it has an order for the engine, the engine block to `block`. Nothing
 /// else changes but the key cache and, by FERS, which is [`erase`], the cells; and
-/// nothing at all on refusal. FERS that is accepted has erased the partition only if
-/// the response's short pairs are 0, or its first short cell is the indicator's
+/// nothing at all on refusal. FERS that is accepted has erased the partition
+/// exactly if the response's short pairs are 0 or its first short cell is the indicator's
 /// (see [`Erasure::Ended`]).
 #[allow(clippy::too_many_arguments)]
 #[inline]
