@@ -81,19 +81,19 @@ fn first_short(first: u16, lowest: Lowest) -> u32
     }
 }
 
-// What is answered of a run that left these cells. Their part is taken before the run's end is looked
-// at: so the compiled code keeps less on the stack.
+// What is answered of a run that left these cells. Entry and part are read before the run's end is
+// looked at: so the compiled code keeps less on the stack.
 fn answer_of(image: &[u8], cells: &[u32], i: u32, report: Report) -> Answer
     requires { ⌜ Whole (now image) (now cells) × (i < headerOf (now image) .partitions) × (report .burns ≤ 2048) ⌝ }
     ensures { λ r. ⌜ r ≡ answerBy (report .end) (now (image .entry)) i (tallyOf (now (cells .entry)) (report .burns)) ⌝ }
 {
+    let x = map::read_entry(image, i);
     let part = drive::part_of(image, cells, i);
     let burns = report.burns as u32;
     let end = report.end;
     match end {
         End::Whole => {
             let header = map::read_header(image);
-            let x = map::read_entry(image, i);
             let shorts = partition::shorts_of(part, header.bound as u64);
             let lowest = shorts.lowest;
             Answer::Ended {

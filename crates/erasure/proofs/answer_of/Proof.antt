@@ -6,6 +6,9 @@ use borrow.Author.Needs.{needs}
 use Rattle.erasure.proofs.answer_of.Statement.{statement}
 use Rattle.erasure.proofs.answer_of.Tie as tie
 
+read-entry-requires : tie.Need-read-entry-requires
+read-entry-requires c κs = search needs
+
 part-of-requires : tie.Need-part-of-requires
 part-of-requires c κs = search needs
 
@@ -18,9 +21,6 @@ enum-told c = search needs
 read-header-requires : tie.Need-read-header-requires
 read-header-requires c κs = search needs
 
-read-entry-requires : tie.Need-read-entry-requires
-read-entry-requires c κs = search needs
-
 cast-shorts-of : tie.Need-cast-shorts-of
 cast-shorts-of c = search needs
 
@@ -29,16 +29,15 @@ shorts-of-requires c κs = search needs
 
 cast-t14 : tie.Need-cast-t14
 cast-t14 c =
-    let part = c .before .before .before .before .before .before .before .before in
-    let start = part .before .before .before in
+    let part = c .before .before .before .before .before .before .before in
+    let start = part .before .before .before .before in
     omega (arith, count-fits _ _ _ (start .pre .0) (start .pre .1) _ (part .part-of .ensures) (c .before .shorts-of .ensures))
 
 first-short-requires : tie.Need-first-short-requires
 first-short-requires c κs =
-    let x = c .before .before .before in
-    let part = x .before .before .before .before .before in
-    let start = part .before .before .before in
-    first-short-fits _ _ _ (start .pre .0) (start .pre .1) _ (part .part-of .ensures) (c .before .shorts-of .ensures) (x .read-entry .ensures)
+    let part = c .before .before .before .before .before .before .before in
+    let start = part .before .before .before .before in
+    first-short-fits _ _ _ (start .pre .0) (start .pre .1) _ (part .part-of .ensures) (c .before .shorts-of .ensures) (part .before .read-entry .ensures)
 
 enum-told-2 : tie.Need-enum-told-2
 enum-told-2 c = search needs
@@ -48,12 +47,11 @@ enum-told-3 c = search needs
 
 returns : tie.Need-returns
 returns c =
-    let x = c .before .before .before .before in
-    let told = x .before .before in
+    let header = c .before .before .before .before in
+    let told = header .before in
     let part = told .before .before .before in
-    let shorts = c .before .before in
     ended _ _ _ (told .enum-told .given .1)
-    (ended-is _ _ _ _ (x .before .read-header .ensures) (x .read-entry .ensures) (part .part-of .ensures) (shorts .shorts-of .ensures) (c .first-short .ensures))
+    (ended-is _ _ _ _ (header .read-header .ensures) (part .before .read-entry .ensures) (part .part-of .ensures) (c .before .before .shorts-of .ensures) (c .first-short .ensures))
 
 returns-2 : tie.Need-returns-2
 returns-2 c = ended _ _ _ (c .enum-told2 .given .1) refl
@@ -65,11 +63,11 @@ pub answer-of-spec : {M : Type 1} → statement M
 answer-of-spec =
     tie.close
     (tie.spec
+    read-entry-requires
     part-of-requires
     cast-burns
     enum-told
     read-header-requires
-    read-entry-requires
     cast-shorts-of
     shorts-of-requires
     cast-t14
