@@ -2,9 +2,10 @@
 // indicator, data words ascending, digest, each burned by the one function that burns a word. A cut
 // erasure is this run with a mask at the burn where the power fails and nothing after it; an erasure
 // that is not cut is this run with a cut that no order reaches. The definitions are in `specs/Run`,
-// the laws of the loop in `specs/Turns`, what a run does to each cell in `specs/Cells`, what any
-// number of runs leaves in `specs/Safe`, how a run ends and after how many burns in `specs/Ends`. It
-// rests on `fuse`, `partition` and `laws`.
+// the laws of the loop in `specs/Turns`, what a run does to each cell in `specs/Cells`, when a run stops
+// after its first burn and what that leaves in `specs/Stops`, what any number of runs leaves in
+// `specs/Safe`, how a run ends and after how many burns in `specs/Ends`. It rests on `fuse`, `partition`
+// and `laws`.
 ghost use mathlib.Core.Path.{_≡_};
 ghost use Prim.Native.Nat.{_+_, _%_, _<_, _≤_};
 ghost use lib.ListN.{length, getD};

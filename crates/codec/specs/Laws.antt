@@ -1,5 +1,5 @@
--- The laws of messages: a request's refusal by the place of the first test that applies, and demand 2's "by the same field lists":
--- what is written by a list reads back by it. Assumes nothing.
+-- The laws of messages: a command's own code, a request's refusal by the place of the first test that applies, and demand 2's "by the same
+-- field lists": what is written by a list reads back by it. Assumes nothing.
 use Prim.Native.Nat.{ℕ, zero, suc, _+_, _*_, _^_, _≤_, _<_}
 use mathlib.Core.Path.{_≡_, refl, sym, ap, _∙_}
 use mathlib.Core.Logic.{⊎-elim}
@@ -25,10 +25,11 @@ use Rattle.codec.specs.Fields.{codeOf, commandOf, known, Field, Mek, fie
 use Rattle.codec.specs.Fields.{numberAt, TimeoutIn, TagIn, bytesAt, mekAt, joined, written, numbersIn, heldBy, responseOf, responseIn, leastRoom}
 use Rattle.codec.specs.Request.{requestTests}
 
--- "The code names the command", and only its own code does
+-- a code is a command's own, if 3 does not refuse it
 record Own (code : ℕ) (command : Command) : Type 0 where
   is : known command ≡ true → code ≡ codeOf command
 
+-- "The code names the command", and only its own code does
 pub code-of : (code : ℕ) → known (commandOf code) ≡ true → code ≡ codeOf (commandOf code)
 code-of code = or Clkc (or Klod (or Kunl (or Fers (or Fsta (record { is = λ k. absurd (false≢true k) }))))) .is
   where

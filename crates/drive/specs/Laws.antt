@@ -2,22 +2,24 @@
 use Prim.Native.Nat.{ℕ, _+_, _-_, _≤_, _<_}
 use mathlib.Core.Path.{_≡_, refl, sym, ap, _∙_}
 use mathlib.Core.Logic.{⊎-elim}
-use mathlib.Core.Bool.{Bool, true, false, cond, _&&_}
+use mathlib.Core.Bool.{Bool, true, false, cond, not, _&&_}
 use mathlib.Core.List.{List, _++_}
 use native.Mathlib.Omega.{arith}
 use lib.ListN.{length, take, drop, length-take}
 use lib.Dec.{eqb, ltb}
 use borrow.Author.Tests.{ltb-true, ltb-false, eqb-true, lt-ltb, le-ltb, not-false}
 use Rattle.laws.specs.Tests.{and, decided}
-use Rattle.laws.specs.Below.{First, first-tells, first-same, count-le}
+use Rattle.laws.specs.Below.{First, first-tells, first-same, count-le, tally-le}
 use Rattle.laws.specs.Refusals.{firstOf, testAt, refusalAt, Past, refused-at, past-all, first-elim, first-both}
 use Rattle.map.specs.declared.Header.{Header}
 use Rattle.map.specs.declared.Entry.{Entry}
 use Rattle.map.specs.Map.{headerOf, entryOf, zeroizable, slot, mapGood}
 use Rattle.map.specs.Laws.{map-header, map-entry}
 use Rattle.partition.specs.declared.State.{State}
+use Rattle.partition.specs.declared.State.the-variants.{Erased}
 use Rattle.partition.specs.declared.Survey.{Survey}
-use Rattle.partition.specs.Partition.{pairs, shortAt, shortPairs, marked, surveyOf}
+use Rattle.partition.specs.Partition.{pairs, shortAt, shortPairs, counted, marked, surveyOf}
+use Rattle.partition.specs.Marked.{erased-shorts}
 use Rattle.cache.specs.Cache.{cacheOf, hasPlace}
 use Rattle.cache.specs.declared.Sought.the-variants.{Held}
 use Rattle.drive.specs.declared.Terms.{Terms}
@@ -124,6 +126,14 @@ module _ (image cells : List ℕ) (good : mapGood image ≡ true) (i : ℕ) (l :
       let long : length part ≤ entryOf image i .n = simp length-take (omega arith) in
       let short = count-le (shortAt bound part) (pairs part) in
       omega arith
+
+  -- "an erased slot may report one short pair" (P4), and no more
+  pub erased-one-most : surveyAt image cells i .state ≡ Erased → surveyAt image cells i .short ≤ 1
+  unfolding surveyAt
+  erased-one-most e =
+      let z = zeroizable (entryOf image i) in
+      let bound = headerOf image .bound in
+      omega (arith, erased-shorts z bound (cellsOf image cells i) e, tally-le (not (counted z bound (cellsOf image cells i))))
 
   pub short-most : surveyAt image cells i .short ≤ 1024
   unfolding surveyAt

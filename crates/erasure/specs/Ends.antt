@@ -3,12 +3,13 @@
 use Prim.Native.Nat.{ℕ, _+_, _-_, _*_, _%_, _≤_, _<_}
 use mathlib.Core.Path.{_≡_, refl, sym, ap, ap₂, _∙_}
 use mathlib.Core.Logic.{_⊎_, inl, inr, ⊎-elim, _↔_}
-use mathlib.Core.Bool.{Bool, true}
+use mathlib.Core.Bool.{true, not}
 use mathlib.Core.List.{List}
 use native.Mathlib.Omega.{arith}
 use lib.ListN.{length, getD}
 use lib.Bits.{bitOr}
 use borrow.Author.Tests.{not-false, leb-false}
+use Rattle.laws.specs.Below.{tally-le}
 use Rattle.laws.specs.Refusals.{first-elim}
 use Rattle.context.specs.State.{State, Outcome, refusing}
 use Rattle.map.specs.Map.{headerOf, entryOf, endOf, software, zeroizable}
@@ -18,11 +19,11 @@ use Rattle.partition.specs.declared.Lowest.{Lowest}
 use Rattle.partition.specs.declared.Lowest.the-variants.{Cell, Nothing}
 use Rattle.partition.specs.declared.Survey.{Survey}
 use Rattle.partition.specs.declared.State.the-variants.{Erased, Torn}
-use Rattle.partition.specs.Partition.{indicator, shortPairs, lowestShort, marked, surveyOf}
-use Rattle.partition.specs.Marked.{erased-exactly, torn-otherwise}
+use Rattle.partition.specs.Partition.{indicator, shortPairs, lowestShort, counted, marked}
+use Rattle.partition.specs.Marked.{erased-shorts, erased-exactly, torn-otherwise}
 use Rattle.burns.specs.declared.End.{End}
 use Rattle.burns.specs.declared.End.the-variants.{Whole, Stopped, Cut as CutEnd}
-use Rattle.burns.specs.Safe.{on-marked, safe-start, whole-on, stopped-exactly, stopped-same}
+use Rattle.burns.specs.Stops.{on-marked, whole-on, stopped-exactly, stopped-same}
 use Rattle.drive.specs.Drive.{Whole as WholeDrive, cellsOf, surveyAt}
 use Rattle.erasure.specs.declared.Answer.{Answer}
 use Rattle.erasure.specs.declared.Answer.the-variants.{Ended, Cut, Refused}
@@ -37,12 +38,14 @@ indicatorCell image i = endOf (entryOf image i) - 2
 
 -- ---- the claims
 
--- a partition of which an erasure that ended has told so many short pairs and this first short cell; its indicator starts at a cell
+-- a partition of which an erasure that ended has told so many short pairs and this first short cell; its indicator starts at `cell`
 pub record LeftBy (cell short first : ℕ) (left : Survey) : Type 0 where
   -- "Erased now means marked with no short pair besides the indicator": no pair is short, or the first short cell is the indicator's
   pub erased : (left .state ≡ Erased) ↔ ((short ≡ 0) ⊎ (first ≡ cell))
   -- "torn means marked otherwise"
   pub torn : (left .state ≡ Erased → ⊥) → left .state ≡ Torn
+  -- "an erased slot may report one short pair", and no more
+  pub one-most : left .state ≡ Erased → short ≤ 1
   pub as-told : left .short ≡ short
 
 -- "no indicator fuse is set after its burn": each of its two cells is 0 with every fuse set that is not stuck
@@ -78,14 +81,14 @@ module _ (image cells marks : List ℕ) (i k mask : ℕ) (whole : WholeDrive ima
   unfolding runOn
   run-marked e =
       sym (on-marked (part left)) ∙ rw (run-part image cells marks i k mask whole l)
-      (whole-on (safe-start (part marks) (part cells)) four even (software (entryOf image i)) k mask e)
+      (whole-on (part marks) (software (entryOf image i)) k mask (part cells) e)
 
   left-long : length (part left) ≡ entryOf image i .n
   left-long = part-long image left i (record { good = whole .good; long = run-length image cells marks i k mask whole l ∙ whole .long }) l
 
   -- the lowest short pair is the indicator exactly when the first short cell is the indicator's
-  lowest-cell : (lowest : Lowest) → (lowest ≡ Cell (2 * indicator (part left))) ↔ (firstShort (entryOf image i .first) lowest ≡ indicatorCell image i)
-  lowest-cell lowest = (to lowest, from lowest)
+  indicator-first : (lowest : Lowest) → (lowest ≡ Cell (2 * indicator (part left))) ↔ (firstShort (entryOf image i .first) lowest ≡ indicatorCell image i)
+  indicator-first lowest = (to lowest, from lowest)
     where
       cell-is : entryOf image i .first + 2 * indicator (part left) ≡ indicatorCell image i
       cell-is = omega (arith, left-long, least, map-entry image (whole .good) i l .n-even)
@@ -106,21 +109,22 @@ module _ (image cells marks : List ℕ) (i k mask : ℕ) (whole : WholeDrive ima
   run-leaves may e =
       let m = run-marked e in
       let same = erased-exactly true bound (part left) m in
-      let cell = lowest-cell (lowestShort bound (part left)) in
+      let cell = indicator-first (lowestShort bound (part left)) in
       rw may (record {
         erased = (
           (λ y. ⊎-elim inl (λ h. inr (cell .0 h)) (same .0 y)),
           λ t. same .1 (⊎-elim inl (λ h. inr (cell .1 h)) t),
         );
         torn = torn-otherwise true bound (part left) m;
+        one-most = λ y. omega (arith, erased-shorts true bound (part left) y, tally-le (not (counted true bound (part left))));
         as-told = refl;
       })
 
   -- the run stops exactly when no indicator fuse is set, unless its first burn is cut
   pub stops-exactly : 1 ≤ k → (runOn image cells marks i k mask .end ≡ Stopped) ↔ NoneSet image cells marks i
   unfolding runOn
-  stops-exactly first =
-      let in-part = stopped-exactly (part marks) (software (entryOf image i)) k mask (part cells) (omega (arith, four)) even first in
+  stops-exactly later =
+      let in-part = stopped-exactly (part marks) (software (entryOf image i)) k mask (part cells) (omega (arith, four)) even later in
       let x = entryOf image i in (
         (λ e j a b.
             let from : x .first ≤ j = omega (arith, least) in

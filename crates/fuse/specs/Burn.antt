@@ -6,7 +6,7 @@
 --     absorbs     all ones burned into any c with s ⊆ c ⊆ s ∪ ¬stuck leave what all ones burned into s leave
 --     burn-apart  it touches its word alone
 --     fits        a cell stays a cell of 32 fuses
---     ones-*      how many are set: the language's count, at most 64, monotone; so a pair only ever stops being short
+--     ones-*, no-ones   how many are set: the language's count, at most 64, none of 0 alone, monotone; so a pair only ever stops being short
 use Prim.Native.Nat.{ℕ, _+_, _-_, _/_, _%_, _^_, _≤_, _<_}
 use mathlib.Core.Path.{_≡_, refl, sym, ap, _∙_}
 use mathlib.Core.Bool.{Bool, true, false}

@@ -15,7 +15,9 @@ use Rattle.fuse.specs.Fuse.{free}
 use Rattle.drive.specs.Drive.{wholeArrays, markedAt}
 use Rattle.cache.specs.Laws.{emptied-held}
 use Rattle.burns.specs.Cells.{full}
-use Rattle.burns.specs.Safe.{Closed, Untouched, on-marked}
+use Rattle.burns.specs.Run.{goesOn}
+use Rattle.burns.specs.Stops.{on-marked}
+use Rattle.burns.specs.Safe.{Untouched}
 use Rattle.erasure.specs.Laws.{part-long}
 use Rattle.erasure.specs.Parts.{Outside, array-at}
 use Rattle.history.specs.Calls.{Call, Restart, after, afterAll}
@@ -113,10 +115,10 @@ module _ (image marks : List ℕ) (i : ℕ) (cells : List ℕ) where
   -- marked, or untouched but for the indicator
   module _ (s : State) (r : Reached image marks i cells s) where
     gate-marked : Ready image marks i cells
-        → Closed (part image marks i cells marks) (part image marks i cells cells) (part image marks i cells (s .cells))
+        → goesOn (part image marks i cells (s .cells)) ≡ true
         → markedAt image (s .cells) i ≡ true
     unfolding markedAt
-    gate-marked ready closed = rw (ready .may) (sym (on-marked (part image marks i cells (s .cells))) ∙ closed .on)
+    gate-marked ready on = rw (ready .may) (sym (on-marked (part image marks i cells (s .cells))) ∙ on)
 
     gate-untouched : Ready image marks i cells → Untouched (part image marks i cells cells) (part image marks i cells (s .cells))
         → (j : ℕ) → InPartition image i j → (InIndicator image i j → ⊥) → getD (s .cells) j 0 ≡ getD cells j 0
@@ -129,7 +131,7 @@ module _ (image marks : List ℕ) (i : ℕ) (cells : List ℕ) where
     gate : (markedAt image (s .cells) i ≡ true) ⊎ ((j : ℕ) → InPartition image i j → (InIndicator image i j → ⊥) → getD (s .cells) j 0 ≡ getD cells j 0)
     gate =
         ⊎-elim
-        (λ ready. ⊎-elim (λ closed. inl (gate-marked ready closed)) (λ untouched. inr (gate-untouched ready untouched)) (r .safe .gate))
+        (λ ready. ⊎-elim (λ on. inl (gate-marked ready on)) (λ untouched. inr (gate-untouched ready untouched)) (r .safe .gate))
         (λ unready. inr (λ j inside other. ap (λ (c : List ℕ). getD c j 0) (r .still unready)))
         ready-or-not
 

@@ -3,49 +3,48 @@
 use Prim.Native.Nat.{ℕ, zero, suc, _≤_, _<_}
 use mathlib.Core.Path.{_≡_, refl, sym, ap, subst, _∙_}
 use mathlib.Core.Logic.{_⊎_, ⊎-elim, _↔_}
-use mathlib.Core.Bool.{Bool, true, false}
 use mathlib.Core.List.{List, []}
 use native.Mathlib.Omega.{arith}
 use lib.ListN.{length}
 use borrow.Author.Tests.{ne-eqb, not-false, leb-false}
-use Rattle.laws.specs.Refusals.{first-elim, testAt, Applies, not-applies}
+use Rattle.laws.specs.Refusals.{first-elim, Applies, not-applies}
 use Rattle.context.specs.State.{State, Outcome, outcome, refusing}
-use Rattle.map.specs.Map.{headerOf, mapGood}
+use Rattle.map.specs.Map.{headerOf}
 use Rattle.burns.specs.declared.End.{End}
 use Rattle.burns.specs.declared.End.the-variants.{Whole, Stopped, Cut as CutEnd}
 use Rattle.burns.specs.Run.{Tally, order, burnsOf}
 use Rattle.burns.specs.Cells.{stopped-not-whole, cut-not-stopped}
-use Rattle.drive.specs.Drive.{Whole as WholeDrive, wholeArrays}
+use Rattle.drive.specs.Drive.{Whole as WholeDrive}
 use Rattle.erasure.specs.declared.Answer.{Answer}
 use Rattle.erasure.specs.Erasure.{eraseTests, never, runOn, answerBy, unburned, burning, eraseOf}
 use Rattle.erasure.specs.Cuts.{uncut-judged, whole-by}
 use Rattle.erasure.specs.Ends.{NoneSet, stops-exactly}
 use Rattle.codec.specs.declared.Command.the-variants.{Fers}
-use Rattle.codec.specs.Fields.{codeOf, commandOf, known}
+use Rattle.codec.specs.Fields.{codeOf, commandOf}
 use Rattle.codec.specs.Laws.{code-of}
 use Rattle.mailbox.specs.declared.Effect.{Effect}
 use Rattle.mailbox.specs.Laws.{fers-or-plain}
 use Rattle.mailbox.specs.Told.{mailbox-elim}
-use Rattle.mailbox.specs.Mailbox.{refused, fersOf, partitionIn, accepted, ownTests, doneOf, replyOf}
+use Rattle.mailbox.specs.Mailbox.{refused, fersOf, partitionIn, accepted, doneOf, replyOf}
 use Rattle.history.specs.Calls.{Call, Direct, Erase, EraseCut, Mailbox, Restart, Erasing, Replying, told, refusal}
 use Rattle.history.specs.Refused.{reply-number, direct-stays}
 
 -- ---- the claim
 
--- a call that asks for the erasure of partition i and burns its indicator whole: a cut in that burn is told as cut
-abbrev pub Erases : Call → (i : ℕ) → Type 0
-Erases (Direct command) i = ⊥
-Erases (Erase j) i = j ≡ i
-Erases (EraseCut j k mask) i = (j ≡ i) × (1 ≤ k)
-Erases (Mailbox code request response block) i = (code ≡ codeOf Fers) × (partitionIn request ≡ i)
-Erases Restart i = ⊥
+-- a call that asks for the erasure of partition i and burns its indicator whole; an erasure that is cut in that burn is told as cut
+abbrev pub BurnsIndicator : Call → (i : ℕ) → Type 0
+BurnsIndicator (Direct command) i = ⊥
+BurnsIndicator (Erase j) i = j ≡ i
+BurnsIndicator (EraseCut j k mask) i = (j ≡ i) × (1 ≤ k)
+BurnsIndicator (Mailbox code request response block) i = (code ≡ codeOf Fers) × (partitionIn request ≡ i)
+BurnsIndicator Restart i = ⊥
 
 pub record Fifteen (image marks : List ℕ) (call : Call) (s : State) : Type 0 where
-  -- where no other number is given, 15 is exactly when no indicator fuse is set after its burn
-  pub exactly : (i : ℕ) → Erases call i → (refusal (told image marks call s) ≡ 0) ⊎ (refusal (told image marks call s) ≡ 15)
+  -- where no other number is given, 15 is given exactly when no indicator fuse is set after its burn
+  pub exactly : (i : ℕ) → BurnsIndicator call i → (refusal (told image marks call s) ≡ 0) ⊎ (refusal (told image marks call s) ≡ 15)
       → (refusal (told image marks call s) ≡ 15) ↔ NoneSet image (s .cells) marks i
   -- and it is given to no other call
-  pub only : refusal (told image marks call s) ≡ 15 → (i : ℕ) × Erases call i
+  pub only : refusal (told image marks call s) ≡ 15 → (i : ℕ) × BurnsIndicator call i
 
 -- ---- its proof
 

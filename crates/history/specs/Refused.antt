@@ -1,7 +1,7 @@
 -- Demand 1: "a refusal changes nothing", of every entry point and every number. Document 01 had one exception, 15, which left its indicator
 -- burned; since request P4 it has nothing to leave, and `Fifteen` says when it is given. Assumes nothing.
 use Prim.Native.Nat.{ℕ, suc, _-_, _≤_, _<_}
-use mathlib.Core.Path.{_≡_, refl, sym, ap, subst, _∙_}
+use mathlib.Core.Path.{_≡_, refl, sym, ap, subst}
 use mathlib.Core.Logic.{⊎-elim}
 use mathlib.Core.Bool.{Bool, true, false, _&&_}
 use mathlib.Core.List.{List, []}
@@ -87,7 +87,7 @@ module _ (image marks : List ℕ) (s : State) where
   abbrev ErasureStays : Outcome Answer State → Type 0
   ErasureStays o = 1 ≤ refusal (Erasing (o .told)) → (o .after ≡ s) × (isCut (o .told) ≡ false)
 
-  -- an erasure that runs is refused with 15 or not at all
+  -- an erasure that runs and is refused, with 15, leaves the state
   run-stays : (i k mask : ℕ) → WholeDrive image (s .cells) → i < headerOf image .partitions → (end : End) → runOn image (s .cells) marks i k mask .end ≡ end
       → let t = runOn image (s .cells) marks i k mask .tally in ErasureStays (outcome (answerBy end image i t) (withCells (t .cells) s))
   run-stays i k mask whole p Whole e l = absurd (omega arith)

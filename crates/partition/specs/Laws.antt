@@ -14,7 +14,7 @@ use Rattle.laws.specs.Bits.{_⊆_}
 use Rattle.laws.specs.Below.{count-none, First, first-tells, first-within}
 use Rattle.fuse.specs.Burn.{short-anti}
 use Rattle.partition.specs.declared.State.{State}
-use Rattle.partition.specs.Partition.{pairs, indicator, shortAt, lowestPair, lowestShort, shortPairs, shortBesides, SomeShort, counted, marked}
+use Rattle.partition.specs.Partition.{pairs, indicator, shortAt, lowestPair, lowestShort, shortPairs, shortBesides, SomeBesides, counted, marked}
 use Rattle.partition.specs.Partition.{noData, stateOf, zeroCell}
 use Rattle.partition.specs.declared.Lowest.the-variants.{Cell, Nothing}
 use Rattle.partition.specs.declared.State.the-variants.{Erased, Torn, Blank, Programmed}
@@ -58,7 +58,7 @@ module _ (zeroizable : Bool) (bound : ℕ) (part : List ℕ) where
   unfolding stateOf
   erased-is m s = simp (m, eq-eqb _ _ s)
 
-  pub torn-is : marked zeroizable part ≡ true → SomeShort bound part → stateOf zeroizable bound part ≡ Torn
+  pub torn-is : marked zeroizable part ≡ true → SomeBesides bound part → stateOf zeroizable bound part ≡ Torn
   unfolding stateOf
   torn-is m s = simp (m, ne-eqb _ _ s)
 
@@ -83,7 +83,7 @@ module _ (zeroizable : Bool) (bound : ℕ) (part : List ℕ) where
   pub erased-whole : stateOf zeroizable bound part ≡ Erased → (j : ℕ) → j < indicator part → shortAt bound part j ≡ false
   erased-whole e j l = count-none (shortAt bound part) (indicator part) (erased-tells e .1) j l
 
-  pub torn-tells : stateOf zeroizable bound part ≡ Torn → (marked zeroizable part ≡ true) × SomeShort bound part
+  pub torn-tells : stateOf zeroizable bound part ≡ Torn → (marked zeroizable part ≡ true) × SomeBesides bound part
   unfolding Tests
   torn-tells e = let t = told e in (t .0, eqb-false _ _ (t .1))
 

@@ -1,5 +1,6 @@
--- Request P4, "Call a zeroizable partition marked when its indicator has at least one set fuse": what it tells, what keeps it, and what a
--- marked partition's short pairs say of its state. Callers cite these laws in place of the definition's text. Assumes nothing.
+-- Request P4, "Call a zeroizable partition marked when its indicator has at least one set fuse": what it tells, what keeps it, how
+-- it stands to counted as zeroized, and what a marked partition's short pairs say of its state. Callers cite these laws in place of the
+-- definition's text. Assumes nothing.
 use Prim.Native.Nat.{ℕ, zero, suc, _+_, _-_, _*_, _%_, _^_, _≤_, _<_}
 use mathlib.Core.Logic.{_⊎_, inl, inr, ⊎-elim, _↔_}
 use mathlib.Core.Path.{_≡_, refl, sym, ap, subst, _∙_}
@@ -10,14 +11,14 @@ use native.Mathlib.Omega.{arith}
 use lib.ListN.{length, getD}
 use lib.Dec.{eqb}
 use borrow.Author.Tests.{eqb-true, eqb-false, ne-eqb, le-leb, leb-true, lt-ltb, not-true}
-use Rattle.laws.specs.Tests.{and, decided, not-yes}
+use Rattle.laws.specs.Tests.{and, decided, not-yes, lt-or-le}
 use Rattle.laws.specs.Bits.{_⊆_, sub-none}
-use Rattle.laws.specs.Below.{tally, countBelow, firstBelow, count-step, count-none, none-count, First, first-tells, first-is, first-within}
+use Rattle.laws.specs.Below.{tally, countBelow, count-step, count-none, none-count, First, first-tells, first-is, first-within}
 use Rattle.fuse.specs.Fuse.{onesOf}
 use Rattle.fuse.specs.Burn.{ones-zero, no-ones}
 use Rattle.partition.specs.declared.Lowest.the-variants.{Cell}
 use Rattle.partition.specs.declared.State.the-variants.{Erased, Torn}
-use Rattle.partition.specs.Partition.{pairs, pairAt, indicator, shortAt, shortPairs, lowestPair, lowestShort, counted, marked, shortBesides, SomeShort, stateOf}
+use Rattle.partition.specs.Partition.{pairs, pairAt, indicator, shortAt, shortPairs, lowestPair, lowestShort, counted, marked, shortBesides, lowestBesides, SomeBesides, stateOf}
 use Rattle.partition.specs.Laws.{erased-is, torn-is, erased-tells, counted-tells, lowest-cell, lowest-tells}
 
 module _ (zeroizable : Bool) (part : List ℕ) where
@@ -35,13 +36,13 @@ module _ (zeroizable : Bool) (part : List ℕ) where
   -- "at least one set fuse", by the indicator's number of ones; a cell is a number of 32 bits
   pub marked-ones : zeroizable ≡ true → 1 ≤ pairs part → ((j : ℕ) → getD part j 0 < 2 ^ 32) → (marked zeroizable part ≡ true) ↔ (1 ≤ onesOf (pairAt part (indicator part)))
   marked-ones z p small = (
-    (λ m. one-least (onesOf (pairAt part (indicator part))) (λ none. marked-tells m .2 (no-ones (small (2 * indicator part)) (small (2 * indicator part + 1)) none))),
+    (λ m.
+        ⊎-elim
+        (λ (l : onesOf (pairAt part (indicator part)) < 1). absurd (marked-tells m .2 (no-ones (small (2 * indicator part)) (small (2 * indicator part + 1)) (omega arith))))
+        (λ l. l)
+        (lt-or-le (onesOf (pairAt part (indicator part))) 1)),
     λ some. marked-is z p (λ none. let o : onesOf (pairAt part (indicator part)) ≡ 0 = ap onesOf none ∙ ones-zero in omega (arith, some, o)),
   )
-    where
-      one-least : (n : ℕ) → (n ≡ 0 → ⊥) → 1 ≤ n
-      one-least zero o = absurd (o refl)
-      one-least (suc n) o = omega arith
 
   -- a partition that counts as zeroized is marked: its indicator has as many set fuses as the bound asks
   pub counted-marked : {bound : ℕ} → 1 ≤ bound → counted zeroizable bound part ≡ true → marked zeroizable part ≡ true
@@ -62,27 +63,26 @@ module _ (part : List ℕ) (two : 2 ≤ length part) (even : length part % 2 ≡
   high-at : 2 * indicator part + 1 ≡ length part - 1
   high-at = omega arith
 
-  -- not marked exactly when both are 0, for a zeroizable partition
-  pub unmarked-tells : marked true part ≡ false → (j : ℕ) → length part ≤ j + 2 → j < length part → getD part j 0 ≡ 0
-  unmarked-tells u j a b =
-      let none : pairAt part (indicator part) ≡ 0 = zero-pair in
-      ⊎-elim
-      (λ (e : length part - 2 ≡ j). rw (← e, ← low-at) (omega (arith, none)))
-      (λ (l : length part - 2 < j). let e : j ≡ length part - 1 = omega arith in rw (e, ← high-at) (omega (arith, none)))
-      (eq-or-lt-of-le (omega arith))
+  -- a zeroizable partition is not marked exactly when both are 0
+  pub unmarked-exactly : (marked true part ≡ false) ↔ ((j : ℕ) → length part ≤ j + 2 → j < length part → getD part j 0 ≡ 0)
+  unmarked-exactly = (
+    (λ u j a b.
+        let none = zero-pair u in
+        ⊎-elim
+        (λ (e : length part - 2 ≡ j). rw (← e, ← low-at) (omega (arith, none)))
+        (λ (l : length part - 2 < j). let e : j ≡ length part - 1 = omega arith in rw (e, ← high-at) (omega (arith, none)))
+        (eq-or-lt-of-le (omega arith))),
+    λ zeros. not-yes _ (λ m. marked-tells true part m .2
+        (let low = zeros (2 * indicator part) (omega arith) (omega arith) in
+        let high = zeros (2 * indicator part + 1) (omega arith) (omega arith) in
+        rw (low, high))),
+  )
     where
-      zero-pair : pairAt part (indicator part) ≡ 0
-      zero-pair =
+      zero-pair : marked true part ≡ false → pairAt part (indicator part) ≡ 0
+      zero-pair u =
           ⊎-elim (λ (e : eqb (pairAt part (indicator part)) 0 ≡ true). eqb-true _ _ e)
           (λ (o : eqb (pairAt part (indicator part)) 0 ≡ false). absurd (false≢true (sym u ∙ marked-is true part refl (omega arith) (eqb-false _ _ o))))
           (decided (eqb (pairAt part (indicator part)) 0))
-
-  pub unmarked-is : ((j : ℕ) → length part ≤ j + 2 → j < length part → getD part j 0 ≡ 0) → marked true part ≡ false
-  unmarked-is zeros =
-      not-yes _ (λ m. marked-tells true part m .2
-      (let low = zeros (2 * indicator part) (omega arith) (omega arith) in
-      let high = zeros (2 * indicator part + 1) (omega arith) (omega arith) in
-      rw (low, high)))
 
 -- "more fuses never unmark"
 pub marked-mono : (zeroizable : Bool) (part more : List ℕ) → length more ≡ length part → ((j : ℕ) → getD part j 0 ⊆ getD more j 0)
@@ -171,13 +171,13 @@ module _ (zeroizable : Bool) (bound : ℕ) (part : List ℕ) where
 
 -- ---- a torn partition's first short pair
 
-module _ (bound : ℕ) (part : List ℕ) (some : SomeShort bound part) where
-  pub torn-within : firstBelow (shortAt bound part) (indicator part) < indicator part
+module _ (bound : ℕ) (part : List ℕ) (some : SomeBesides bound part) where
+  pub torn-within : lowestBesides bound part < indicator part
   torn-within = first-within (shortAt bound part) (indicator part) some
 
   -- it is the first of all: the indicator comes after it
-  pub torn-first : lowestPair bound part ≡ firstBelow (shortAt bound part) (indicator part)
+  pub torn-first : lowestPair bound part ≡ lowestBesides bound part
   torn-first =
-      let j = firstBelow (shortAt bound part) (indicator part) in
+      let j = lowestBesides bound part in
       let w : First (shortAt bound part) 0 (indicator part) j = first-tells (shortAt bound part) 0 (indicator part) in
       first-is (shortAt bound part) (pairs part) j (omega (arith, torn-within)) (w .at (omega (arith, torn-within))) (λ k l. w .before k (omega arith) l)

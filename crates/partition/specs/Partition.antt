@@ -76,6 +76,10 @@ noData zeroizable part = allBelow (zeroCell part) (dataCells zeroizable part)
 abbrev pub shortBesides : (bound : ℕ) (part : List ℕ) → ℕ
 shortBesides bound part = countBelow (shortAt bound part) (indicator part)
 
+-- the lowest of them; the indicator's number where none is short
+abbrev pub lowestBesides : (bound : ℕ) (part : List ℕ) → ℕ
+lowestBesides bound part = firstBelow (shortAt bound part) (indicator part)
+
 -- "Its state is one of four", as request P4 has them
 unfoldable pub stateOf : (zeroizable : Bool) (bound : ℕ) (part : List ℕ) → State
 stateOf zeroizable bound part =
@@ -92,12 +96,12 @@ surveyOf zeroizable bound part = record { state = stateOf zeroizable bound part;
 -- ---- request P1, "torn also with its first short pair and that pair's ones"
 
 -- some pair besides the indicator is short
-abbrev pub SomeShort : (bound : ℕ) (part : List ℕ) → Type 0
-SomeShort bound part = shortBesides bound part ≡ 0 → ⊥
+abbrev pub SomeBesides : (bound : ℕ) (part : List ℕ) → Type 0
+SomeBesides bound part = shortBesides bound part ≡ 0 → ⊥
 
 -- a torn partition's first short pair, by its first cell, counted from where the partition starts; "P1 passes over the indicator when it
 -- names a short pair" (P4)
 abbrev pub tornPair : (bound : ℕ) (part : List ℕ) → ShortPair
 tornPair bound part =
-    let first : ℕ = firstBelow (shortAt bound part) (indicator part) in
+    let first : ℕ = lowestBesides bound part in
     record { cell = 2 * first; ones = onesOf (pairAt part first) }

@@ -1,12 +1,13 @@
 // One partition's cells, from where the partition starts: its short pairs, whether it is marked, and
-// its state. Each pair is counted whole against the bound; nothing is summed over
-// the partition. The definitions are in `specs/Partition`, the laws for callers in `specs/Laws`.
-// It rests on `fuse` and `laws`. Every public function answers for any number of cells.
+// its state. Each pair is counted whole against the bound; nothing is summed over the partition. The
+// definitions are in `specs/Partition`, the laws for callers in `specs/Laws`, those of marked, and of
+// the states by it, in `specs/Marked`. It rests on `fuse` and `laws`. Every public function answers for
+// any number of cells.
 ghost use mathlib.Core.Path.{_≡_};
 ghost use Prim.Native.Nat.{_+_, _*_, _<_, _≤_};
 ghost use lib.ListN.{length};
 ghost use Rattle.partition.specs.Partition.{pairAt, shortAt, shortPairs, lowestPair, lowestShort, shortsOf, marked, tail, noData, surveyOf};
-ghost use Rattle.partition.specs.Partition.{SomeShort, tornPair};
+ghost use Rattle.partition.specs.Partition.{SomeBesides, tornPair};
 
 // The first cell of the lowest short pair, counted from the partition's start.
 pub enum Lowest {
@@ -118,7 +119,7 @@ pub fn shorts_of(part: &[u32], bound: u64) -> Shorts
 // The first short pair among those that a torn partition is judged by. The indicator, which is not one
 // of them, comes last: so the first short pair of all is the first of these.
 pub fn torn_pair(part: &[u32], bound: u64) -> ShortPair
-    requires { ⌜ SomeShort bound (now part) ⌝ }
+    requires { ⌜ SomeBesides bound (now part) ⌝ }
     ensures { λ r. ⌜ r ≡ tornPair bound (now (part .entry)) ⌝ }
 {
     let j = lowest_pair(part, bound);

@@ -9,11 +9,11 @@ use native.Mathlib.Omega.{arith}
 use lib.ListN.{length, getD, length-take}
 use borrow.Author.Tests.{ltb-true, ltb-false, lt-ltb, le-ltb, not-true, not-false}
 use Rattle.laws.specs.Tests.{cond-keeps}
-use Rattle.laws.specs.Below.{firstBelow, First, first-tells, first-is, all-at, all-fails, all-holds, fails-at}
+use Rattle.laws.specs.Below.{First, first-tells, first-is, all-at, all-fails, all-holds, fails-at}
 use Rattle.context.specs.Laws.{part-at}
 use Rattle.map.specs.Map.{headerOf, entryOf, slot, mapGood}
 use Rattle.fuse.specs.Fuse.{pairOf, onesOf}
-use Rattle.partition.specs.Partition.{pairs, pairAt, indicator, shortAt, tornPair}
+use Rattle.partition.specs.Partition.{pairs, pairAt, indicator, shortAt, lowestBesides, tornPair}
 use Rattle.partition.specs.Marked.{torn-within}
 use Rattle.partition.specs.declared.State.the-variants.{Blank as BlankState, Torn as TornState, Programmed as ProgrammedState}
 use Rattle.drive.specs.Drive.{wholeArrays, cellsOf, activeSlot, available}
@@ -90,7 +90,7 @@ module _ (image cells : List ℕ) (i : ℕ) where
   short-pair : Active image cells i TornState → FirstShort image cells i (entryOf image i .first + tornPair bound part .cell) (tornPair bound part .ones)
   unfolding shortAt
   short-pair a =
-      let j = firstBelow (shortAt bound part) (indicator part) in
+      let j = lowestBesides bound part in
       let within = torn-within bound part (some-short image cells i a) in
       let w : First (shortAt bound part) 0 (indicator part) j = first-tells (shortAt bound part) 0 (indicator part) in
       record {
@@ -108,7 +108,7 @@ module _ (image cells : List ℕ) (i : ℕ) where
   pair-is f =
       let here = pair-in (f .pair) (omega (arith, f .within)) in
       let short-there : onesOf (pairAt part (f .pair)) < bound = rw (here, ← f .ones-are) (f .short-there) in
-      let first : firstBelow (shortAt bound part) (indicator part) ≡ f .pair =
+      let first : lowestBesides bound part ≡ f .pair =
       first-is (shortAt bound part) (indicator part) (f .pair) (f .within) (lt-ltb _ _ short-there)
       (λ j l. le-ltb (onesOf (pairAt part j)) bound (rw (pair-in j (omega (arith, f .within))) (f .none-before j l))) in
       rw (first, here, f .cell-is, f .ones-are)

@@ -13,7 +13,7 @@ use Rattle.map.specs.Laws.{map-header, map-entry}
 use Rattle.fuse.specs.Burn.{ones-most}
 use Rattle.partition.specs.declared.ShortPair.{ShortPair}
 use Rattle.partition.specs.declared.State.the-variants.{Torn as TornState}
-use Rattle.partition.specs.Partition.{SomeShort, tornPair}
+use Rattle.partition.specs.Partition.{SomeBesides, tornPair}
 use Rattle.partition.specs.Laws.{torn-tells}
 use Rattle.partition.specs.Marked.{torn-within}
 use Rattle.drive.specs.Drive.{driveTests, checkOf, cellsOf, surveyAt, activeSlot}
@@ -35,7 +35,7 @@ not-slot image i x is-slot e s = rw (s, e)
 
 module _ (image cells : List ℕ) (i : ℕ) (active : Active image cells i TornState) where
   -- some pair besides the indicator is short
-  pub some-short : SomeShort (headerOf image .bound) (cellsOf image cells i)
+  pub some-short : SomeBesides (headerOf image .bound) (cellsOf image cells i)
   unfolding surveyAt
   some-short = torn-tells _ _ _ (active .state-is) .1
 
@@ -49,7 +49,7 @@ module _ (image cells : List ℕ) (i : ℕ) (active : Active image cells i TornS
       (omega (arith, torn-within _ _ some-short), ones-most _)
 
   module _ {header : Header} {part : List ℕ} (h : header ≡ headerOf image) (p : part ≡ cellsOf image cells i) where
-    pub some-here : SomeShort (header .bound) part
+    pub some-here : SomeBesides (header .bound) part
     some-here = rw (h, p) some-short
 
     module _ {x : Entry} {pair : ShortPair} (e : x ≡ entryOf image i) (q : pair ≡ tornPair (header .bound) part) where

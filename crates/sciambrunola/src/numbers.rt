@@ -56,7 +56,8 @@ pub struct SciAnswer {
     pub word: u64,
 }
 
-// An erasure's answer. kind: 0 ended (the partition is erased only if `short` is 0), 1 cut, 2 refused.
+// An erasure's answer. kind: 0 ended (the partition is erased exactly if `short` is 0 or `first` is its
+// indicator's first cell, else torn), 1 cut, 2 refused.
 #[repr(C)]
 pub struct SciErasure {
     pub kind: u32,

@@ -1,4 +1,5 @@
--- `mailbox::call` meets its contract: a refusal leaves everything but what FERS has burned, else each part is as the effect leaves it. Assumes nothing.
+-- `mailbox::call` meets its contract: a refusal leaves all but the cells, which are as FERS's burn left them, else each part is as the
+-- effect leaves it. Assumes nothing.
 use Rattle.context.specs.State.{state}
 use Rattle.mailbox.specs.Mailbox.{Lent, lent}
 use Rattle.mailbox.specs.Laws.{Carried, carried, refused-left, carried-left}
