@@ -68,8 +68,9 @@
  * only a data word of kind 1 is one cell. It is named by its first cell, counted
  * in the whole array.
  *
- * States. A pair is short when it has fewer ones than B. A partition is marked when
- * it is zeroizable and its indicator has at least one set fuse. It is
+ * States. A pair is short when it has fewer ones than B. A partition is marked (which
+ * has nothing to do with the stuck marks) when it is zeroizable and its indicator has
+ * at least one set fuse. It is
  *   erased      if it is marked and no pair of it but the indicator is short
  *   torn        if it is marked and some other pair of it is short
  *   blank       if it is not marked and every data cell is zero
@@ -100,7 +101,8 @@
  *   14  TAG_NOT_HELD     KUNL, tag not held
  *   15  INDICATOR_UNSET  the erasure's indicator has no set fuse after its burn:
  *                        every fuse of it is stuck, and none was set before. The
- *                        erasure stops before the data
+ *                        erasure stops before the data: the seed is still there,
+ *                        and asking again gives 15 again
  *   16  TEXT             the map's text has not its form, or the buffer for the
  *                        image is too short
  */

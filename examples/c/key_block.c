@@ -243,16 +243,16 @@ static bool erase_slot_cut(void)
     return true;
 }
 
-/* Whether an erasure of the slot that ended has erased it: no pair is short, or the
- * first that is short is the indicator, the last pair, so that no other is. */
+/* An erasure of the slot that ended has erased it exactly if no pair is short or the
+ * first short cell is the indicator's. That is the last pair: no other is short then. */
 static bool is_erased(sci_erasure erasure)
 {
     sci_fields slot = sci_partition(map, sizeof map, SLOT);
     return erasure.short_pairs == 0 || erasure.first_short == slot.first + slot.length - 2;
 }
 
-/* Erases the slot. That the erasure ended is not enough: with another short pair the
- * slot is torn, and its seed may still be there. The reason then names that pair. */
+/* Erases the slot. That the erasure ended is not enough: with a short pair besides the
+ * indicator it is torn, its seed may still be there, and the reason names that pair. */
 static bool erase_slot(void)
 {
     sci_erasure erasure = erase();

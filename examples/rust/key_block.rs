@@ -183,9 +183,10 @@ impl Drive {
         held.map_or(Ok(()), |tag| failed("restart", tag))
     }
 
-    /// Erases the slot. That the erasure ended is not enough: with another short pair
-    /// than the indicator the slot is torn, and its seed may still be there. The reason
-    /// then names that pair.
+    /// Erases the slot. That the erasure ended is not enough: it has erased the slot
+    /// exactly if no pair is short or the first short cell is the indicator's. Otherwise
+    /// the slot is torn, and its seed may still be there; the reason then names its first
+    /// short pair.
     fn erase_slot(&mut self) -> Step {
         let erasure = self.erase();
         self.list_states()?;

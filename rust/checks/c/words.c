@@ -10,6 +10,7 @@
 
 #define CELLS 12
 #define DRIVE image, sizeof image, cells, CELLS, marks, CELLS, &context
+#define WEAK image, sizeof image, weak_cells, CELLS, weak_marks, CELLS, &context
 
 static const uint8_t image[] = {
     2, 0, 12, 0, 60, 0, 8, 0, /* P, C, B, E */
@@ -18,7 +19,9 @@ static const uint8_t image[] = {
 };
 static uint32_t cells[CELLS] = {1};
 static const uint32_t marks[CELLS] = {0, 0, 0, 0, 0xFFFFFFFF, 0xFFFFFFFF};
-static const uint32_t other_marks[CELLS] = {0, 0, 0, 0, 0, 0x1F};
+/* Another drive: its indicator cannot have more than 59 ones. */
+static uint32_t weak_cells[CELLS] = {1};
+static const uint32_t weak_marks[CELLS] = {0, 0, 0, 0, 0, 0x1F};
 static const uint32_t torn[CELLS] = {
     0xFFFFFFFF, 0xFFFFFFFF, /* data, erased */
     0x80000000, 0x00000011, /* the digest, short */
@@ -32,9 +35,8 @@ static void print_answer(const char *name, sci_answer answer)
            answer.kind, answer.refusal, answer.word);
 }
 
-static void print_erasure(uint32_t *these, const uint32_t *stuck)
+static void print_erasure(sci_erasure erasure)
 {
-    sci_erasure erasure = sci_erase(image, sizeof image, these, CELLS, stuck, CELLS, &context, 0);
     printf("erasure: kind %" PRIu32 ", refusal %" PRIu32 ", short %" PRIu32 ", first %" PRIu32
            ", burns %" PRIu32 "\n", erasure.kind, erasure.refusal, erasure.short_pairs,
            erasure.first_short, erasure.burns);
@@ -67,7 +69,6 @@ int main(void)
 {
     const uint8_t klod[84] = {0xBC, 0xFE, 0xFF, 0xFF, [8] = 6, [12] = 5, [16] = 7, [20] = 8};
     uint8_t response[SCI_LEAST_RESPONSE], block[SCI_BLOCK_BYTES];
-    uint32_t other_cells[CELLS] = {1};
     sci_reply reply;
     sci_place place;
     int i;
@@ -75,10 +76,10 @@ int main(void)
     print_answer("WRITE 7", sci_write(DRIVE, 7, 0x89));
     print_answer("READ 7", sci_read(DRIVE, 7));
     print_answer("WRITE 0", sci_write(DRIVE, 0, 5));
-    print_answer("ZEROIZE 4", sci_zeroize(DRIVE, 4));
+    print_answer("ZEROIZE 4", sci_zeroize(WEAK, 4));
     print_answer("ZEROIZE 6", sci_zeroize(DRIVE, 6));
-    print_erasure(cells, marks);
-    print_erasure(other_cells, other_marks);
+    print_erasure(sci_erase(DRIVE, 0));
+    print_erasure(sci_erase(WEAK, 0));
     for (i = 0; i < 2; i++) {
         reply = sci_mailbox(DRIVE, SCI_KLOD, klod, sizeof klod, response, sizeof response, block,
                             sizeof block);

@@ -10,9 +10,11 @@ use model::{Drive, Image};
 pub const PROGRAMS: [(&str, fn(&[u8]) -> Vec<u8>); 2] =
     [("status", model::status::output), ("why", model::why::output)];
 
-/// What the lines of a table can say. A partition's line says its state; that
-/// column's head stands for a whole table.
-const KINDS: &str = "state, refused 1, refused 2, erased, torn, blank, programmed, hek N, hek none";
+/// What the lines of a table can say. A partition's line says its state, and an erased one's
+/// its short pairs too: 0, or 1 where the indicator is short. The state's head stands for a
+/// whole table.
+const KINDS: &str = "state, refused 1, refused 2, erased 0, erased 1, torn, blank, programmed, \
+                     hek N, hek none";
 
 /// What the line of `why` can say besides a refusal, which is the table's too.
 const REASONS: [&str; 5] =
@@ -87,10 +89,11 @@ fn listed(line: &str) -> Option<(&str, &str)> {
 }
 
 fn kind(line: &str) -> &str {
-    match line.strip_prefix("hek ") {
-        Some("none") => "hek none",
-        Some(_) => "hek N",
-        None => listed(line).map_or(line, |(_, state)| state),
+    match (line.strip_prefix("hek "), line.find("erased")) {
+        (Some("none"), _) => "hek none",
+        (Some(_), _) => "hek N",
+        (None, Some(erased)) => &line[erased..],
+        (None, None) => listed(line).map_or(line, |(_, state)| state),
     }
 }
 

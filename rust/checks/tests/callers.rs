@@ -1,11 +1,12 @@
 //! Callers. A C program is compiled with every warning an error, linked and run; its lines are
-//! written from the documents. Every fuse of the indicator is stuck: it stays without a one, is
-//! withheld, and stops an erasure, so that the slot is still programmed and its HEK available. With
-//! the mark 1F on cell 5 instead, the indicator gets 59 ones, and an erasure ends with that pair
-//! short. Other cells have the indicator set and three fuses of the digest: they are torn. The maps
-//! are the header's two texts, then one with too little room, one without its last line feed, and
-//! one with a slot that is not secret. A program that drops an erasure's answer is warned by its
-//! compiler, in C and in Rust: an erasure that ended is not yet an erased partition.
+//! written from the documents. Every fuse of the indicator is stuck: it stops an erasure, so that
+//! the slot is still programmed and its HEK available. On another drive, with the mark 1F on cell
+//! 5 instead, ZEROIZE gives the indicator 59 ones, one below the bound, and withholds it; the
+//! erasure that follows ends with that pair short. Other cells have the indicator set and three
+//! fuses of the digest: they are torn. The maps are the header's two texts, then one with too
+//! little room, one without its last line feed, and one with a slot that is not secret. A program
+//! that drops an erasure's answer is warned by its compiler, in C and in Rust: an erasure that
+//! ended is not yet an erased partition.
 
 use checks::runner::{compiled, in_repository, run};
 use std::path::{Path, PathBuf};

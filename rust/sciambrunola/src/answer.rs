@@ -29,6 +29,8 @@ pub enum Erasure {
     /// indicator's cell: the indicator is the last pair, so that no other is short then.
     /// Otherwise it is torn, and its seed may still be there. With the fields of
     /// [`partition`](crate::partition) the indicator's cell is `first + length - 2`.
+    /// To ask for no short pair at all fails good drives; to take `Ended` alone passes
+    /// torn ones.
     Ended {
         /// The pairs with fewer ones than the map's bound, those of digest and
         /// indicator included.

@@ -86,8 +86,9 @@ pub mod refusal {
     pub const NO_PLACE: u32 = 13;
     /// KUNL, tag not held.
     pub const TAG_NOT_HELD: u32 = 14;
-    /// The erasure's indicator has no set fuse after its burn: every one is stuck. The
-    /// erasure stops before the data.
+    /// The erasure's indicator has no set fuse after its burn: every fuse of it is
+    /// stuck, and none was set before. The erasure stops before the data: the seed is
+    /// still there, and asking again gives 15 again.
     pub const INDICATOR_UNSET: u32 = 15;
     /// The map's text has not its form, or the buffer for the image is too short.
     pub const TEXT: u32 = 16;

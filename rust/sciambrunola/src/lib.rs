@@ -47,7 +47,8 @@ pub enum Command {
         /// The word's first cell.
         cell: u32,
     },
-    /// Burns a value into a data word, but for a marked partition (see [`State`]).
+    /// Burns a value into a data word; refused (8) in a marked partition (see [`State`]),
+    /// among others.
     Write {
         /// The word's first cell.
         cell: u32,

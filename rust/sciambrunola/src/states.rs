@@ -14,8 +14,8 @@ pub enum States {
     Refused(u32),
 }
 
-/// The state of a partition. It is marked when it is zeroizable and its indicator has
-/// at least one set fuse.
+/// The state of a partition. It is marked (which has nothing to do with the stuck marks)
+/// when it is zeroizable and its indicator has at least one set fuse.
 #[must_use]
 #[derive(Clone, Copy, Debug, PartialEq, Eq)]
 pub enum State {

@@ -1,7 +1,8 @@
 //! What a power failure leaves: the erasure of the small drive's slot, cut at each of its burns
 //! with several parts of the word burned, and erased again. Played on the proved key block, on the
-//! drives of cases 2, 4 and 5 of document 01, "The small drive". The slot that is erased again is
-//! erased where no pair is short, or the indicator's, at cell 4, is the first; otherwise it is torn.
+//! drives of cases 2, 4 and 5 of document 01, "The small drive", and where every fuse of the
+//! indicator is stuck. After the last erasure the slot is erased if no pair is short or the first
+//! short cell is 4, the indicator's; otherwise it is torn, or, after 15, what it was.
 
 use checks::calls::commands::low_bits;
 use checks::small::{self, SLOT};
@@ -17,13 +18,15 @@ fn main() {
     table("no stuck fuse", &[]);
     table("mark 1F on cell 1: word 0 cannot have more than 59 ones", &[(1, 0x1F)]);
     table("mark 1F on cell 5: the indicator cannot have more than 59 ones", &[(5, 0x1F)]);
+    let stuck = "mark FFFFFFFF on cells 4 and 5: the indicator cannot have a one";
+    table(stuck, small::INDICATOR_STUCK);
 }
 
 /// A header, and a line for each burn and mask.
 fn table(drive: &str, marks: &[(usize, u32)]) {
     println!("small drive, bound 60, {drive}");
     let names = ["burn", "word", "mask", "answer", "word after", "state", "short", "hek"];
-    println!("{} erased again", row(names));
+    println!("{} erased again: state", row(names));
     let map = small::stuck(marks).drive.map().expect("the small drive's map is good");
     for (k, word) in (0..).zip(order(&map, SLOT as usize)) {
         for (name, bits) in MASKS {
@@ -33,7 +36,7 @@ fn table(drive: &str, marks: &[(usize, u32)]) {
     }
 }
 
-/// The drive after a cut, and what the next erasure answers.
+/// The drive after a cut, what the next erasure answers, and the slot's state after that.
 fn line(mut lent: Lent, cut: Cut, (cell, word): (usize, Word), mask: &str) -> String {
     let answered = small::text(small::erase(&mut lent, Some(cut)));
     let after = format!("{:016X}", fuse::word(&lent.drive.cells, cell, word.size));
@@ -45,9 +48,12 @@ fn line(mut lent: Lent, cut: Cut, (cell, word): (usize, Word), mask: &str) -> St
     };
     let (k, word, short) = (cut.k.to_string(), format!("{part} {cell}"), short.to_string());
     let columns = [k.as_str(), &word, mask, &answered, &after, state, &short, &hek];
-    format!("{} {}", row(columns), small::text(small::erase(&mut lent, None)))
+    let row = row(columns);
+    let again = small::text(small::erase(&mut lent, None));
+    let (state, ..) = small::slot(&lent);
+    format!("{row} {again}: {state}")
 }
 
 fn row([k, word, mask, answer, after, state, short, hek]: [&str; 8]) -> String {
-    format!("{k:<4} {word:<11} {mask:<6} {answer:<12} {after:<16} {state:<10} {short:<5} {hek:<4}")
+    format!("{k:<4} {word:<11} {mask:<6} {answer:<19} {after:<16} {state:<10} {short:<5} {hek:<4}")
 }

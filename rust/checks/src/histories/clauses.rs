@@ -79,12 +79,14 @@ pub const ALL: &[Row<Clause>] = &[
         asked.then(|| (s.said.refusal() == Some(15)) == (unset && !s.cuts_indicator()))
     }),
     // P4: "Erased now means marked with no short pair besides the indicator", which is the last
-    // pair, so that it is the lowest short one exactly if no other is short.
-    ("ended, it is erased exactly if none is short, or the indicator first", |s| {
+    // pair, so that it is the lowest short one exactly if no other is short; "torn means marked
+    // otherwise".
+    ("ended, it is erased if none is short, or the indicator first, else torn", |s| {
         let ([short_pairs, first_short], partition) = (s.told()?, s.partition.as_ref()?);
         let indicator = partition.indicator().start as u32;
         let passes = short_pairs == 0 || first_short == indicator;
-        Some(partition.erased(s.cells()) == passes)
+        let (erased, torn) = (partition.erased(s.cells()), partition.torn(s.cells()));
+        Some(erased == passes && (passes || torn))
     }),
     ("bytes past the response keep their values", |s| {
         let [after, before] = [&s.after, &s.before].map(|l| l.response.get(response_length(s)..));

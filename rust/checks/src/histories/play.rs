@@ -58,7 +58,10 @@ const SIGHTS: &[Row<Sight>] = &[
     ("ended by one indicator fuse, which burned", |s| {
         s.completes && s.indicator_ones(s.start()) == 0 && s.indicator_ones(s.cells()) == 1
     }),
-    ("ended by indicator fuses set at the start, each of it stuck", |s| {
+    ("ended, the indicator partly set at the start", |s| {
+        s.completes && (1..64).contains(&s.indicator_ones(s.start()))
+    }),
+    ("ended by indicator fuses set at the start, every fuse of it stuck", |s| {
         s.completes && s.stuck() == 64
     }),
     ("ended erased, the indicator alone short", |s| {
@@ -83,7 +86,7 @@ const SIGHTS: &[Row<Sight>] = &[
     }),
     ("cut that set no fuse", |s| s.cut.is_some() && s.before.drive.cells == s.after.drive.cells),
     ("cut after it had ended", |s| s.cut.is_some() && s.past.completed),
-    ("15 where each fuse of the indicator is stuck and others would burn", |s| {
+    ("15 where every fuse of the indicator is stuck and others would burn", |s| {
         s.stopped() && s.stuck() == 64 && s.would_burn()
     }),
     ("15 by FERS", |s| s.stopped() && s.call.name() == "FERS"),
