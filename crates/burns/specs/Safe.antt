@@ -85,7 +85,7 @@ module _ (marks : List ℕ) (s : List ℕ) (four : 4 ≤ length s) (even : lengt
   first-on : {c d : List ℕ} → Safe marks s c → Safe marks s d → goesOn (first marks (length s) c .cells) ≡ goesOn (first marks (length s) d .cells)
   first-on h g = full-on _ _ (safe-burn allOnes h .len) (safe-burn allOnes g .len) (first-full h) (first-full g)
 
-  -- where it does not, the indicator was not closed before, so nothing else has changed
+  -- where it does not, the partition was not marked before, so nothing else has changed
   off-untouched : {c : List ℕ} → Safe marks s c → goesOn (first marks (length s) c .cells) ≡ false → Untouched s c
   off-untouched {c} h off =
       ⊎-elim

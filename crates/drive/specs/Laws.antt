@@ -112,9 +112,18 @@ module _ (image cells : List ℕ) (i : ℕ) (terms : Terms) (part : List ℕ) (t
   unfolding surveyAt
   survey-is r q = cc
 
-  pub marked-here : (r : Bool) → r ≡ marked (terms .zeroizable) part → r ≡ markedAt image cells i
-  unfolding markedAt
-  marked-here r q = cc
+pub marked-here : (image cells : List ℕ) (i : ℕ) {x : Entry} {may : Bool} {part : List ℕ} → x ≡ entryOf image i → may ≡ zeroizable x → part ≡ cellsOf image cells i
+    → (r : Bool) → r ≡ marked may part → r ≡ markedAt image cells i
+unfolding markedAt
+marked-here image cells i e z p r q = rw (q, z, e, p)
+
+-- "an erased slot may report one short pair" (P4), and no more
+pub erased-one-most : (image cells : List ℕ) (i : ℕ) → surveyAt image cells i .state ≡ Erased → surveyAt image cells i .short ≤ 1
+unfolding surveyAt
+erased-one-most image cells i e =
+    let z = zeroizable (entryOf image i) in
+    let bound = headerOf image .bound in
+    omega (arith, erased-shorts z bound (cellsOf image cells i) e, tally-le (not (counted z bound (cellsOf image cells i))))
 
 -- a partition has at most 1,024 pairs, short or not
 module _ (image cells : List ℕ) (good : mapGood image ≡ true) (i : ℕ) (l : i < headerOf image .partitions) where
@@ -126,14 +135,6 @@ module _ (image cells : List ℕ) (good : mapGood image ≡ true) (i : ℕ) (l :
       let long : length part ≤ entryOf image i .n = simp length-take (omega arith) in
       let short = count-le (shortAt bound part) (pairs part) in
       omega arith
-
-  -- "an erased slot may report one short pair" (P4), and no more
-  pub erased-one-most : surveyAt image cells i .state ≡ Erased → surveyAt image cells i .short ≤ 1
-  unfolding surveyAt
-  erased-one-most e =
-      let z = zeroizable (entryOf image i) in
-      let bound = headerOf image .bound in
-      omega (arith, erased-shorts z bound (cellsOf image cells i) e, tally-le (not (counted z bound (cellsOf image cells i))))
 
   pub short-most : surveyAt image cells i .short ≤ 1024
   unfolding surveyAt

@@ -87,8 +87,8 @@ pub fn marked_at(image: &[u8], cells: &[u32], i: u32) -> bool
     requires { ⌜ Whole (now image) (now cells) × (i < headerOf (now image) .partitions) ⌝ }
     ensures { λ r. ⌜ r ≡ markedAt (now (image .entry)) (now (cells .entry)) i ⌝ }
 {
-    let terms = terms_of(image, i);
-    partition::is_marked(part_of(image, cells, i), terms.zeroizable)
+    let zeroizable = map::is_zeroizable(map::read_entry(image, i));
+    partition::is_marked(part_of(image, cells, i), zeroizable)
 }
 
 // Partition `i` as the active slot: absent where it is no slot or is erased. It surveys its part itself:

@@ -3,13 +3,12 @@
 use Prim.Native.Nat.{ℕ, _+_, _-_, _*_, _%_, _≤_, _<_}
 use mathlib.Core.Path.{_≡_, refl, sym, ap, ap₂, _∙_}
 use mathlib.Core.Logic.{_⊎_, inl, inr, ⊎-elim, _↔_}
-use mathlib.Core.Bool.{true, not}
+use mathlib.Core.Bool.{true}
 use mathlib.Core.List.{List}
 use native.Mathlib.Omega.{arith}
 use lib.ListN.{length, getD}
 use lib.Bits.{bitOr}
 use borrow.Author.Tests.{not-false, leb-false}
-use Rattle.laws.specs.Below.{tally-le}
 use Rattle.laws.specs.Refusals.{first-elim}
 use Rattle.context.specs.State.{State, Outcome, refusing}
 use Rattle.map.specs.Map.{headerOf, entryOf, endOf, software, zeroizable}
@@ -19,12 +18,13 @@ use Rattle.partition.specs.declared.Lowest.{Lowest}
 use Rattle.partition.specs.declared.Lowest.the-variants.{Cell, Nothing}
 use Rattle.partition.specs.declared.Survey.{Survey}
 use Rattle.partition.specs.declared.State.the-variants.{Erased, Torn}
-use Rattle.partition.specs.Partition.{indicator, shortPairs, lowestShort, counted, marked}
-use Rattle.partition.specs.Marked.{erased-shorts, erased-exactly, torn-otherwise}
+use Rattle.partition.specs.Partition.{indicator, shortPairs, lowestShort, marked}
+use Rattle.partition.specs.Marked.{erased-exactly, torn-otherwise}
 use Rattle.burns.specs.declared.End.{End}
 use Rattle.burns.specs.declared.End.the-variants.{Whole, Stopped, Cut as CutEnd}
 use Rattle.burns.specs.Stops.{on-marked, whole-on, stopped-exactly, stopped-same}
 use Rattle.drive.specs.Drive.{Whole as WholeDrive, cellsOf, surveyAt}
+use Rattle.drive.specs.Laws.{erased-one-most}
 use Rattle.erasure.specs.declared.Answer.{Answer}
 use Rattle.erasure.specs.declared.Answer.the-variants.{Ended, Cut, Refused}
 use Rattle.erasure.specs.Erasure.{eraseTests, runOn, firstShort, answerBy, unburned, burning, eraseOf, erasureOf, cutErasureOf}
@@ -116,7 +116,7 @@ module _ (image cells marks : List ℕ) (i k mask : ℕ) (whole : WholeDrive ima
           λ t. same .1 (⊎-elim inl (λ h. inr (cell .1 h)) t),
         );
         torn = torn-otherwise true bound (part left) m;
-        one-most = λ y. omega (arith, erased-shorts true bound (part left) y, tally-le (not (counted true bound (part left))));
+        one-most = rw may at (erased-one-most image left i);
         as-told = refl;
       })
 

@@ -31,7 +31,8 @@ use Rattle.history.specs.Refused.{reply-number, direct-stays}
 
 -- ---- the claim
 
--- a call that asks for the erasure of partition i and burns its indicator whole; an erasure that is cut in that burn is told as cut
+-- a call that asks for the erasure of partition i and, where nothing refuses it before, burns its indicator whole; one that is cut in that
+-- burn is told as cut
 abbrev pub BurnsIndicator : Call → (i : ℕ) → Type 0
 BurnsIndicator (Direct command) i = ⊥
 BurnsIndicator (Erase j) i = j ≡ i
@@ -39,18 +40,18 @@ BurnsIndicator (EraseCut j k mask) i = (j ≡ i) × (1 ≤ k)
 BurnsIndicator (Mailbox code request response block) i = (code ≡ codeOf Fers) × (partitionIn request ≡ i)
 BurnsIndicator Restart i = ⊥
 
+-- no other number is given
+abbrev pub NoOther : (number : ℕ) → Type 0
+NoOther number = (number ≡ 0) ⊎ (number ≡ 15)
+
 pub record Fifteen (image marks : List ℕ) (call : Call) (s : State) : Type 0 where
   -- where no other number is given, 15 is given exactly when no indicator fuse is set after its burn
-  pub exactly : (i : ℕ) → BurnsIndicator call i → (refusal (told image marks call s) ≡ 0) ⊎ (refusal (told image marks call s) ≡ 15)
+  pub exactly : (i : ℕ) → BurnsIndicator call i → NoOther (refusal (told image marks call s))
       → (refusal (told image marks call s) ≡ 15) ↔ NoneSet image (s .cells) marks i
   -- and it is given to no other call
   pub only : refusal (told image marks call s) ≡ 15 → (i : ℕ) × BurnsIndicator call i
 
 -- ---- its proof
-
--- no other number is given
-abbrev NoOther : (number : ℕ) → Type 0
-NoOther number = (number ≡ 0) ⊎ (number ≡ 15)
 
 module _ (image marks : List ℕ) (s : State) where
   -- ---- the erasures

@@ -9,6 +9,7 @@ use crate::proved::Proved;
 use crate::tally::{self, Row, Tally};
 use model::{Call, Cut, Erase, KeyBlock, Lent, Model, Said};
 use std::collections::BTreeSet;
+use std::ops::Range;
 
 /// An attempt as it was played.
 pub struct Step<'a> {
@@ -79,7 +80,8 @@ const SIGHTS: &[Row<Sight>] = &[
     ("cut at the digest", |s| s.cut_at(|k, digest| k == digest)),
     ("cut that tore it", |s| s.cut.is_some() && s.tears()),
     ("cut that tore it by a part of the indicator", |s| {
-        s.cut.is_some() && s.tears() && s.leaves(Layout::weakly_marked)
+        let cut = s.cut_at(|k, _| k == 0) && s.would_burn(Layout::indicator);
+        cut && s.tears() && s.leaves(Layout::weakly_marked)
     }),
     ("cut at the indicator that left it unmarked", |s| {
         s.cut_at(|k, _| k == 0) && !s.leaves(Layout::marked)
@@ -87,7 +89,7 @@ const SIGHTS: &[Row<Sight>] = &[
     ("cut that set no fuse", |s| s.cut.is_some() && s.before.drive.cells == s.after.drive.cells),
     ("cut after it had ended", |s| s.cut.is_some() && s.past.completed),
     ("15 where every fuse of the indicator is stuck and others would burn", |s| {
-        s.stopped() && s.stuck() == 64 && s.would_burn()
+        s.stopped() && s.stuck() == 64 && s.would_burn(|p| p.range.clone())
     }),
     ("15 by FERS", |s| s.stopped() && s.call.name() == "FERS"),
     ("15 of a cut", |s| s.stopped() && s.call.name() == "cut erasure"),
@@ -154,11 +156,11 @@ impl Step<'_> {
         self.said.refusal() == Some(15)
     }
 
-    /// Whether some fuse of the partition is neither set nor stuck.
-    fn would_burn(&self) -> bool {
+    /// Whether some fuse of these cells is neither set nor stuck.
+    fn would_burn(&self, of: fn(&Layout) -> Range<usize>) -> bool {
         let marks = &self.history.start.marks;
         let burns = |cell: usize| self.cells()[cell] | marks[cell] != u32::MAX;
-        self.partition.as_ref().map_or(false, |p| p.range.clone().any(burns))
+        self.partition.as_ref().map_or(false, |p| of(p).any(burns))
     }
 
     /// Whether this holds of a cut's k and of the number of the digest's burn.
