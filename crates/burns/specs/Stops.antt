@@ -31,7 +31,8 @@ pub on-grown : {marks c d : List ℕ} → Grown marks c d → goesOn c ≡ true 
 on-grown {marks} {c} {d} g on = on-marked d ∙ marked-mono true c d (g .len) (λ j. g .each j .kept) (sym (on-marked c) ∙ on)
 
 -- it hangs on the last two cells, the indicator
-pub on-same : (n : ℕ) (c d : List ℕ) → 2 ≤ n → n % 2 ≡ 0 → length c ≡ n → length d ≡ n → ((j : ℕ) → n - 2 ≤ j → j < n → getD c j 0 ≡ getD d j 0) → goesOn c ≡ goesOn d
+pub on-same : (n : ℕ) (c d : List ℕ) → 2 ≤ n → n % 2 ≡ 0 → length c ≡ n → length d ≡ n → ((j : ℕ) → n - 2 ≤ j → j < n → getD c j 0 ≡ getD d j 0)
+    → goesOn c ≡ goesOn d
 unfolding goesOn marked
 on-same n c d two even p q f =
     let low = f (2 * (n / 2 - 1)) (omega arith) (omega arith) in

@@ -112,8 +112,8 @@ module _ (image cells : List ℕ) (i : ℕ) (terms : Terms) (part : List ℕ) (t
   unfolding surveyAt
   survey-is r q = cc
 
-pub marked-here : (image cells : List ℕ) (i : ℕ) {x : Entry} {may : Bool} {part : List ℕ} → x ≡ entryOf image i → may ≡ zeroizable x → part ≡ cellsOf image cells i
-    → (r : Bool) → r ≡ marked may part → r ≡ markedAt image cells i
+pub marked-here : (image cells : List ℕ) (i : ℕ) {x : Entry} {may : Bool} {part : List ℕ} → x ≡ entryOf image i → may ≡ zeroizable x
+    → part ≡ cellsOf image cells i → (r : Bool) → r ≡ marked may part → r ≡ markedAt image cells i
 unfolding markedAt
 marked-here image cells i e z p r q = rw (q, z, e, p)
 

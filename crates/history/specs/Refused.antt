@@ -106,7 +106,8 @@ module _ (image marks : List ℕ) (s : State) where
   abbrev Stays : Outcome Effect (List ℕ) → Type 0
   Stays d = 1 ≤ refusal (Replying (replyOf (d .told)) []) → stateAfter d s ≡ s
 
-  fers-stays : (i : ℕ) (t : Tally) (end : End) → (end ≡ CutEnd → ⊥) → (end ≡ Stopped → t .cells ≡ s .cells) → Stays (outcome (fersOf (answerBy end image i t)) (t .cells))
+  fers-stays : (i : ℕ) (t : Tally) (end : End) → (end ≡ CutEnd → ⊥) → (end ≡ Stopped → t .cells ≡ s .cells)
+      → Stays (outcome (fersOf (answerBy end image i t)) (t .cells))
   fers-stays i t Whole u h l = absurd (omega arith)
   fers-stays i t Stopped u h l = ap (λ (c : List ℕ). withCells c s) (h refl)
   fers-stays i t CutEnd u h l = absurd (u refl)

@@ -108,7 +108,8 @@ module _ (zeroizable : Bool) (bound : ℕ) (part : List ℕ) where
       (first .0, leb-true _ _ (first .1), not-true _ (last .1))
 
 -- more fuses never take it back; a cell is a number of 32 bits
-pub counted-mono : (zeroizable : Bool) (bound : ℕ) (part more : List ℕ) → length more ≡ length part → ((j : ℕ) → getD part j 0 < 2 ^ 32) → ((j : ℕ) → getD more j 0 < 2 ^ 32)
+pub counted-mono : (zeroizable : Bool) (bound : ℕ) (part more : List ℕ) → length more ≡ length part
+    → ((j : ℕ) → getD part j 0 < 2 ^ 32) → ((j : ℕ) → getD more j 0 < 2 ^ 32)
     → ((j : ℕ) → getD part j 0 ⊆ getD more j 0) → counted zeroizable bound part ≡ true → counted zeroizable bound more ≡ true
 unfolding shortAt
 counted-mono zeroizable bound part more len small small′ grown c =

@@ -34,7 +34,8 @@ module _ (zeroizable : Bool) (part : List ℕ) where
       (first .0, leb-true _ _ (first .1), eqb-false _ _ (not-true _ (last .1)))
 
   -- "at least one set fuse", by the indicator's number of ones; a cell is a number of 32 bits
-  pub marked-ones : zeroizable ≡ true → 1 ≤ pairs part → ((j : ℕ) → getD part j 0 < 2 ^ 32) → (marked zeroizable part ≡ true) ↔ (1 ≤ onesOf (pairAt part (indicator part)))
+  pub marked-ones : zeroizable ≡ true → 1 ≤ pairs part → ((j : ℕ) → getD part j 0 < 2 ^ 32)
+      → (marked zeroizable part ≡ true) ↔ (1 ≤ onesOf (pairAt part (indicator part)))
   marked-ones z p small = (
     (λ m.
         ⊎-elim
@@ -115,7 +116,8 @@ none-besides (suc n) false = rw (ne-eqb (suc n + 0) 0 (λ e. omega arith), ne-eq
     and-false true = refl
     and-false false = refl
 
-pub besides-by : (bound : ℕ) (part : List ℕ) {short : ℕ} {last : Bool} → 1 ≤ pairs part → short ≡ shortPairs bound part → last ≡ shortAt bound part (indicator part)
+pub besides-by : (bound : ℕ) (part : List ℕ) {short : ℕ} {last : Bool} → 1 ≤ pairs part → short ≡ shortPairs bound part
+    → last ≡ shortAt bound part (indicator part)
     → (eqb short 0 || (eqb short 1 && last)) ≡ eqb (shortBesides bound part) 0
 besides-by bound part p s l = rw (s, l, shorts-split bound part p) (none-besides (shortBesides bound part) (shortAt bound part (indicator part)))
 

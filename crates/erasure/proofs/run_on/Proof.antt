@@ -50,7 +50,9 @@ is-software-requires : tie.Need-is-software-requires
 is-software-requires c κs = search needs
 
 run-requires : tie.Need-run-requires
-run-requires c κs = fits-run _ _ _ _ (c .before .before .before .before .before .before .before .before .before .before .pre) (c .before .before .before .before .before .before .read-entry .ensures)
+run-requires c κs =
+    let entry = c .before .before .before .before .before .before in
+    fits-run _ _ _ _ (entry .before .before .before .before .pre) (entry .read-entry .ensures)
 
 same-length : tie.Need-same-length
 same-length c = search needs
