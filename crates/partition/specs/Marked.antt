@@ -85,7 +85,7 @@ module _ (part : List ℕ) (two : 2 ≤ length part) (even : length part % 2 ≡
           (λ (o : eqb (pairAt part (indicator part)) 0 ≡ false). absurd (false≢true (sym u ∙ marked-is true part refl (omega arith) (eqb-false _ _ o))))
           (decided (eqb (pairAt part (indicator part)) 0))
 
--- "more fuses never unmark"
+-- more fuses never unmark a partition
 pub marked-mono : (zeroizable : Bool) (part more : List ℕ) → length more ≡ length part → ((j : ℕ) → getD part j 0 ⊆ getD more j 0)
     → marked zeroizable part ≡ true → marked zeroizable more ≡ true
 marked-mono zeroizable part more len grown m =
