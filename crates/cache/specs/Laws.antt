@@ -1,44 +1,50 @@
--- The cache's laws: a place as the code reads it, a place that is set, what a search tells, and which places are held afterwards.
--- Assumes nothing.
-use Prim.Native.Nat.{ℕ, suc, _+_, _≤_, _<_}
+-- The cache's laws: a place as the code reads it, a place that is set, places that are turned, what a search tells, and which places are
+-- occupied afterwards. Assumes nothing.
+use Prim.Native.Nat.{ℕ, zero, suc, _+_, _≤_, _<_}
 use mathlib.Core.Path.{_≡_, refl, sym, ap, ap₂, subst, _∙_}
 use mathlib.Core.Logic.{⊎-elim, inl, inr}
-use mathlib.Core.Bool.{Bool, true, false, cond, not, false≢true}
+use mathlib.Core.Bool.{Bool, true, false, cond, not, _&&_, false≢true}
 use mathlib.Core.List.{List, _++_}
 use native.Mathlib.Omega.{arith}
 use native.Mathlib.Numerals.{add-one}
 use lib.Dec.{eqb, ltb}
 use lib.ListN.{length, getD, set, drop, replicate, length-replicate, replicate-append-replicate}
-use lib.Seq.{set-out, set-at, drop-cons, drop-set-lt, append-snoc, getD-set-same, getD-set-other}
-use borrow.Author.Tests.{lt-ltb, le-ltb, ltb-true, ltb-false, eqb-true, eqb-false}
-use Rattle.laws.specs.Tests.{decided, lt-or-le}
+use lib.Seq.{set-at, drop-cons, drop-set-lt, append-snoc, getD-set-other}
+use borrow.Author.Tests.{lt-ltb, le-ltb, ltb-true, eqb-true, ne-eqb}
+use Rattle.laws.specs.Tests.{decided, lt-or-le, and, not-yes, cond-keeps}
 use Rattle.laws.specs.Below.{firstFrom, first-tells, first-least}
-use Rattle.context.specs.Context.{kindsAt, tagsAt}
+use Rattle.context.specs.Context.{kindsAt, tagsAt, awaitedAt}
 use Rattle.context.specs.Laws.{part-at, store-in, store-apart}
 use Rattle.cache.specs.declared.Sought.{Sought}
-use Rattle.cache.specs.declared.Sought.the-variants.{Held}
-use Rattle.cache.specs.declared.Place.the-variants.{Empty as EmptyPlace, Held as HeldPlace}
-use Rattle.cache.specs.Cache.{Cache, cacheOf, places, emptyAt, isAt, lowestPlace, hasPlace, placeAt, cacheWords, placed, freed, empty, emptied}
+use Rattle.cache.specs.declared.Sought.the-variants.{Occupied, Waiting, Tag}
+use Rattle.cache.specs.declared.Place.the-variants.{Empty as EmptyPlace}
+use Rattle.cache.specs.Cache.{Cache, cacheOf, places, kindIn, tagIn, empty, waiting, kindIs, isAt, lowestPlace, hasPlace, awaits, busy, AtRest, placeBy, placeAt}
+use Rattle.cache.specs.Cache.{cacheWords, placed, keptTag, turnedAt, turnedBelow, noReply, clearReply, awaiting, clearing, settled, emptied}
 
 -- ---- a place, at the words that were read
 
 module _ (context : List ℕ) (k : ℕ) (l : k < places) where
-  -- it is empty
-  pub empty-read : eqb (getD context (kindsAt + k) 0) 0 ≡ emptyAt (cacheOf context) k
+  pub kind-read : getD context (kindsAt + k) 0 ≡ kindIn (cacheOf context) k
   unfolding cacheOf
-  empty-read = ap (λ (kind : ℕ). eqb kind 0) (sym (part-at kindsAt places context k l))
+  kind-read = sym (part-at kindsAt places context k l)
 
-  -- its tag
-  pub tag-read : getD context (tagsAt + k) 0 ≡ getD (cacheOf context .tags) k 0
+  pub tag-read : getD context (tagsAt + k) 0 ≡ tagIn (cacheOf context) k
   unfolding cacheOf
   tag-read = sym (part-at tagsAt places context k l)
 
-  pub place-read : (held : Bool) → held ≡ not (emptyAt (cacheOf context) k)
-      → cond held (HeldPlace (getD context (tagsAt + k) 0)) EmptyPlace ≡ placeAt (cacheOf context) k
-  place-read held e = rw (e, lt-ltb _ _ l, tag-read)
+  pub is-read : (sought : Sought) → kindIs sought (getD context (kindsAt + k) 0) (getD context (tagsAt + k) 0) ≡ isAt (cacheOf context) sought k
+  unfolding isAt
+  is-read sought = ap₂ (kindIs sought) kind-read tag-read
+
+  pub place-read : placeBy (getD context (kindsAt + k) 0) (getD context (tagsAt + k) 0) ≡ placeAt (cacheOf context) k
+  place-read = rw (lt-ltb _ _ l) (ap₂ placeBy kind-read tag-read)
 
 pub past-read : (c : Cache) (k : ℕ) → places ≤ k → EmptyPlace ≡ placeAt c k
 past-read c k l = rw (le-ltb _ _ l)
+
+pub awaited-read : (context : List ℕ) → getD context awaitedAt 0 ≡ cacheOf context .awaited
+unfolding cacheOf
+awaited-read context = refl
 
 -- ---- a place that is set
 
@@ -52,17 +58,6 @@ module _ (context : List ℕ) (k kind tag : ℕ) where
   unfolding placed
   placed-past l = simp (le-ltb _ _ l)
 
-  -- the kind and the tag are those of place k, and all others stay
-  pub placed-cache : k < places
-      → cacheOf (placed k kind tag context) ≡ record { kinds = set (cacheOf context .kinds) k kind; tags = set (cacheOf context .tags) k tag }
-  unfolding cacheOf
-  placed-cache l =
-      rw (← placed-in l)
-      (ap₂ (λ (kinds tags : List ℕ). record { kinds = kinds; tags = tags })
-      (store-apart kindsAt places (set context (kindsAt + k) kind) (tagsAt + k) tag (inr (omega arith)) ∙ store-in kindsAt places context k kind l)
-      (store-in tagsAt places (set context (kindsAt + k) kind) k tag l
-      ∙ ap (λ (tags : List ℕ). set tags k tag) (store-apart tagsAt places context (kindsAt + k) kind (inl (omega arith)))))
-
   -- and the words behind the cache stay
   pub placed-behind : drop cacheWords (placed k kind tag context) ≡ drop cacheWords context
   placed-behind =
@@ -74,10 +69,64 @@ module _ (context : List ℕ) (k kind tag : ℕ) where
       (λ (o : places ≤ k). ap (drop cacheWords) (sym (placed-past o)))
       (lt-or-le k places)
 
--- every place is emptied, whatever the words were
-pub emptied-cache : (context : List ℕ) → cacheOf (emptied context) ≡ empty
-unfolding emptied cacheOf
-emptied-cache context = refl
+-- ---- places that are turned, one after the other
+
+-- a place that is sought is set, any other stays
+module _ (sought : Sought) (kind k : ℕ) (context : List ℕ) where
+  pub turn-sets : k < places → isAt (cacheOf context) sought k ≡ true
+      → placed k kind (keptTag kind (getD context (tagsAt + k) 0)) context ≡ turnedAt sought kind k context
+  turn-sets l y = rw (y, tag-read context k l)
+
+  pub turn-passes : isAt (cacheOf context) sought k ≡ false → context ≡ turnedAt sought kind k context
+  turn-passes o = rw o
+
+pub turn-next : (sought : Sought) (kind k : ℕ) (before : List ℕ) {context after : List ℕ} → context ≡ turnedBelow sought kind k before
+    → after ≡ turnedAt sought kind k context → after ≡ turnedBelow sought kind (k + 1) before
+unfolding turnedBelow
+turn-next sought kind k before e f = f ∙ rw (add-one k, e)
+
+-- a turn over places none of which is sought changes nothing
+pub turn-none : (sought : Sought) (kind n : ℕ) (context : List ℕ) → ((k : ℕ) → k < n → isAt (cacheOf context) sought k ≡ false) → turnedBelow sought kind n context ≡ context
+unfolding turnedBelow
+turn-none sought kind zero context none = refl
+turn-none sought kind (suc n) context none =
+    let same = turn-none sought kind n context (λ k l. none k (omega arith)) in
+    rw (same, none n (omega arith))
+
+-- the words behind the cache stay
+turned-behind : (sought : Sought) (kind n : ℕ) (context : List ℕ) → drop cacheWords (turnedBelow sought kind n context) ≡ drop cacheWords context
+unfolding turnedBelow
+turned-behind sought kind zero context = refl
+turned-behind sought kind (suc n) context =
+    let t = turnedBelow sought kind n context in
+    cond-keeps (λ (c : List ℕ). drop cacheWords c ≡ drop cacheWords context) (isAt (cacheOf t) sought n) (placed n kind (keptTag kind (tagIn (cacheOf t) n)) t) t
+    (λ _. placed-behind t n kind _ ∙ turned-behind sought kind n context)
+    (λ _. turned-behind sought kind n context)
+
+-- ---- the awaited reply
+
+module _ (reply : ℕ) (context : List ℕ) where
+  -- the places stay, and the words behind the cache
+  pub awaiting-at : (sought : Sought) (k : ℕ) → isAt (cacheOf (awaiting reply context)) sought k ≡ isAt (cacheOf context) sought k
+  unfolding cacheOf isAt
+  awaiting-at sought k =
+      rw (store-apart kindsAt places context awaitedAt reply (inr (omega arith)), store-apart tagsAt places context awaitedAt reply (inr (omega arith)))
+
+  pub awaiting-behind : drop cacheWords (awaiting reply context) ≡ drop cacheWords context
+  awaiting-behind = drop-set-lt cacheWords context awaitedAt reply (omega arith)
+
+pub clearing-behind : (context : List ℕ) → drop cacheWords (clearing context) ≡ drop cacheWords context
+clearing-behind context = awaiting-behind clearReply (turnedBelow Occupied waiting places context) ∙ turned-behind Occupied waiting places context
+
+pub settled-behind : (kind : ℕ) (context : List ℕ) → drop cacheWords (settled kind context) ≡ drop cacheWords context
+settled-behind kind context = awaiting-behind noReply (turnedBelow Waiting kind places context) ∙ turned-behind Waiting kind places context
+
+-- ---- all places emptied
+
+-- whatever the words were
+pub emptied-rest : (context : List ℕ) → AtRest (cacheOf (emptied context))
+unfolding emptied cacheOf isAt firstFrom
+emptied-rest context = record { all-empty = refl; none-awaited = refl }
 
 -- and the words behind the cache stay
 pub emptied-behind : (context : List ℕ) → drop cacheWords (emptied context) ≡ drop cacheWords context
@@ -102,33 +151,46 @@ module _ (c : Cache) (sought : Sought) where
   pub has-at : (k : ℕ) → k < places → isAt c sought k ≡ true → hasPlace c sought ≡ true
   has-at k l a = let m = first-least (isAt c sought) places k l a in lt-ltb (lowestPlace c sought) places (omega arith)
 
--- ---- held places
+  pub has-none : hasPlace c sought ≡ false → (k : ℕ) → k < places → isAt c sought k ≡ false
+  has-none o k l = not-yes _ (λ a. false≢true (sym o ∙ has-at k l a))
 
--- an empty cache has none, whatever the context was
-pub emptied-held : (context : List ℕ) → hasPlace (cacheOf (emptied context)) Held ≡ false
-unfolding emptied cacheOf isAt firstFrom
-emptied-held context = refl
+-- ---- occupied places
 
--- a freed place is held no more, and the others stay
-cleared-kind : (kinds : List ℕ) (k j : ℕ) → not (eqb (getD (set kinds k 0) j 0) 0) ≡ true → not (eqb (getD kinds j 0) 0) ≡ true
-cleared-kind kinds k j h =
-    ⊎-elim
-    (λ (e : eqb j k ≡ true).
-    let same : j ≡ k = eqb-true j k e in
-    ⊎-elim
-    (λ (l : ltb k (length kinds) ≡ true). absurd (false≢true (rw (same, getD-set-same kinds k 0 0 (ltb-true _ _ l)) at h)))
-    (λ (o : ltb k (length kinds) ≡ false). rw (set-out kinds k 0 (ltb-false _ _ o)) at h)
-    (decided (ltb k (length kinds))))
-    (λ (e : eqb j k ≡ false). rw (getD-set-other kinds k j 0 0 (eqb-false j k e)) at h)
-    (decided (eqb j k))
+-- every place but an empty one is occupied, whatever else was sought of it
+abbrev Occupies : Sought → Type 0
+Occupies sought = (kind tag : ℕ) → kindIs sought kind tag ≡ true → kindIs Occupied kind tag ≡ true
 
-freed-at : (context : List ℕ) (k j : ℕ) → isAt (cacheOf (freed k context)) Held j ≡ true → isAt (cacheOf context) Held j ≡ true
+waiting-occupies : Occupies Waiting
+waiting-occupies kind tag y = ap not (ne-eqb kind empty (λ z. omega (arith, eqb-true kind waiting y)))
+
+pub tag-occupies : (tag : ℕ) → Occupies (Tag tag)
+tag-occupies sought kind tag y = and (not (eqb kind empty)) (eqb tag sought) y .0
+
+pub has-occupied : (c : Cache) (sought : Sought) → Occupies sought → hasPlace c sought ≡ true → hasPlace c Occupied ≡ true
 unfolding isAt
-freed-at context k j h =
-    ⊎-elim
-    (λ (l : k < places). cleared-kind (cacheOf context .kinds) k j (subst (λ (c : Cache). isAt c Held j ≡ true) (placed-cache context k 0 0 l) h))
-    (λ (o : places ≤ k). subst (λ (c : List ℕ). isAt (cacheOf c) Held j ≡ true) (sym (placed-past context k 0 0 o)) h)
-    (lt-or-le k places)
+has-occupied c sought o h = let t = has-tells c sought h in has-at c Occupied _ (t .0) (o _ _ (t .1))
 
-pub freed-held : (context : List ℕ) (k : ℕ) → hasPlace (cacheOf (freed k context)) Held ≡ true → hasPlace (cacheOf context) Held ≡ true
-freed-held context k h = let t = has-tells (cacheOf (freed k context)) Held h in has-at (cacheOf context) Held _ (t .0) (freed-at context k _ (t .1))
+-- at rest nothing is busy
+pub rest-idle : (c : Cache) → AtRest c → busy c ≡ false
+rest-idle c r = rw (r .none-awaited) (not-yes (hasPlace c Waiting) (λ y. false≢true (sym (r .all-empty) ∙ has-occupied c Waiting waiting-occupies y)))
+
+-- a turn occupies no place where none was: what is turned was occupied
+turned-occupied : (sought : Sought) → Occupies sought → (kind reply : ℕ) (context : List ℕ)
+    → hasPlace (cacheOf (awaiting reply (turnedBelow sought kind places context))) Occupied ≡ true → hasPlace (cacheOf context) Occupied ≡ true
+turned-occupied sought o kind reply context h =
+    ⊎-elim
+    (λ (y : hasPlace (cacheOf context) sought ≡ true). has-occupied (cacheOf context) sought o y)
+    (λ (n : hasPlace (cacheOf context) sought ≡ false).
+    let same = turn-none sought kind places context (has-none (cacheOf context) sought n) in
+    let after = turnedBelow sought kind places context in
+    let t = has-tells (cacheOf (awaiting reply after)) Occupied h in
+    let k = lowestPlace (cacheOf (awaiting reply after)) Occupied in
+    has-at (cacheOf context) Occupied k (t .0)
+    (subst (λ (c : List ℕ). isAt (cacheOf c) Occupied k ≡ true) same (sym (awaiting-at reply after Occupied k) ∙ t .1)))
+    (decided (hasPlace (cacheOf context) sought))
+
+pub clearing-occupied : (context : List ℕ) → hasPlace (cacheOf (clearing context)) Occupied ≡ true → hasPlace (cacheOf context) Occupied ≡ true
+clearing-occupied context = turned-occupied Occupied (λ kind tag y. y) waiting clearReply context
+
+pub settled-occupied : (kind : ℕ) (context : List ℕ) → hasPlace (cacheOf (settled kind context)) Occupied ≡ true → hasPlace (cacheOf context) Occupied ≡ true
+settled-occupied kind context = turned-occupied Waiting waiting-occupies kind noReply context

@@ -37,7 +37,7 @@ cells = 1 ∷ replicate 11 0
 
 -- contexts, the kinds of 16 places and then their tags: every place empty, and the first held
 abbrev no-key : List ℕ
-no-key = replicate 32 0
+no-key = replicate 33 0
 
 abbrev one-key : List ℕ
 one-key = 1 ∷ replicate 31 0

@@ -13,7 +13,7 @@ use Rattle.partition.specs.declared.State.the-variants.{Erased, Torn, Blank, Pr
 use Rattle.partition.specs.declared.Survey.{Survey}
 use Rattle.partition.specs.Partition.{marked, surveyOf}
 use Rattle.cache.specs.Cache.{cacheOf, hasPlace}
-use Rattle.cache.specs.declared.Sought.the-variants.{Held}
+use Rattle.cache.specs.declared.Sought.the-variants.{Occupied}
 use Rattle.drive.specs.declared.Terms.{Terms}
 use Rattle.drive.specs.declared.Check.{Check}
 use Rattle.drive.specs.declared.Check.the-variants.{Ready, Refused}
@@ -107,6 +107,7 @@ available Absent = false
 
 -- ---- slots while a key is held
 
--- 10, "slot change while keys are held": "WRITE, ZEROIZE and erasure on a slot are refused (10) while any place is held"
+-- 10, "slot change while keys are held": "WRITE, ZEROIZE and erasure on a slot are refused (10) while any place is held"; by request P5
+-- "Waiting and unsure places count as held"
 abbrev pub slotInUse : (image : List ℕ) (i : ℕ) (context : List ℕ) → Bool
-slotInUse image i context = slot (entryOf image i) && hasPlace (cacheOf context) Held
+slotInUse image i context = slot (entryOf image i) && hasPlace (cacheOf context) Occupied

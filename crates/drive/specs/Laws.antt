@@ -21,7 +21,7 @@ use Rattle.partition.specs.declared.Survey.{Survey}
 use Rattle.partition.specs.Partition.{pairs, shortAt, shortPairs, counted, marked, surveyOf}
 use Rattle.partition.specs.Marked.{erased-shorts}
 use Rattle.cache.specs.Cache.{cacheOf, hasPlace}
-use Rattle.cache.specs.declared.Sought.the-variants.{Held}
+use Rattle.cache.specs.declared.Sought.the-variants.{Occupied}
 use Rattle.drive.specs.declared.Terms.{Terms}
 use Rattle.drive.specs.declared.Check.{Check}
 use Rattle.drive.specs.declared.Check.the-variants.{Ready, Refused}
@@ -189,5 +189,5 @@ module _ (image cells cells′ : List ℕ)
 -- ---- a slot while a key is held, at the entry that was read
 
 pub in-use-is : (image : List ℕ) (i : ℕ) {x : Entry} → x ≡ entryOf image i → (context : List ℕ) {is-slot held : Bool} → is-slot ≡ slot x
-    → held ≡ hasPlace (cacheOf context) Held → (is-slot && held) ≡ slotInUse image i context
+    → held ≡ hasPlace (cacheOf context) Occupied → (is-slot && held) ≡ slotInUse image i context
 in-use-is image i e context s h = rw (s, h, e)

@@ -178,9 +178,9 @@ pub fn is_hek_available(image: &[u8], cells: &[u32]) -> bool
     is_available(active_in(image, cells))
 }
 
-// Whether a partition is a slot while a key is held, refusal 10 of what would change it.
+// Whether a partition is a slot while a place is not empty, refusal 10 of what would change it.
 pub fn is_slot_in_use(image: &[u8], i: u32, context: &Context) -> bool
     ensures { λ r. ⌜ r ≡ slotInUse (now (image .entry)) i (now (context .entry)) ⌝ }
 {
-    map::is_slot(map::read_entry(image, i)) & cache::has_place(context, Sought::Held)
+    map::is_slot(map::read_entry(image, i)) & cache::has_place(context, Sought::Occupied)
 }

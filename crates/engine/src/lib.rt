@@ -1,5 +1,5 @@
-// The engine: the orders that it gets, and its block of 128 bytes, built as one array and then
-// written. The definitions are in `specs/Engine`. It rests on `endian`, `laws` and the kit's `bytes`.
+// The engine: the orders that it gets, what it replies to one, and its block of 128 bytes, built as one
+// array and then written. The definitions are in `specs/Engine`. It rests on `endian`, `laws` and the kit's `bytes`.
 ghost use mathlib.Core.Path.{_≡_};
 ghost use Prim.Native.Nat.{_≤_};
 ghost use lib.ListN.{length};
@@ -11,6 +11,14 @@ pub enum Order {
     Clear { timeout: u32 },
     Load { place: u32, timeout: u32 },
     Unload { place: u32, timeout: u32 },
+}
+
+// What the engine replies to an order: that it is done, nothing in its time, or that it failed, with the
+// vendor's number.
+pub enum EngineReply {
+    Done,
+    TimedOut,
+    Failed(u32),
 }
 
 // Where the tag stands in the block: METD begins with it.

@@ -115,7 +115,8 @@ isCut (Ended short first burns) = false
 isCut (Cut burns) = true
 isCut (Refused number burns) = false
 
--- of a cut erasure: "nothing follows and the key cache is empty"; where it ends before burn k, or is refused, it is not cut
+-- of a cut erasure: "nothing follows and the key cache is empty", and by request P5 no reply is awaited; where it ends before burn k, or
+-- is refused, it is not cut
 abbrev pub afterCut : Outcome Answer State → Outcome Answer State
 afterCut o =
     let s : State = o .after in
@@ -127,6 +128,6 @@ cutErasureOf image marks i k mask s = afterCut (eraseOf image marks i k mask s)
 
 -- ---- the restart
 
--- "A restart empties the cache and changes nothing else"
+-- "A restart empties the cache and changes nothing else"; by request P5 it drops an awaited reply
 abbrev pub restarted : State → State
 restarted s = withContext (emptied (s .context)) s

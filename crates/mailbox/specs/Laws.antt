@@ -3,93 +3,95 @@ use Prim.Native.Nat.{ℕ, _≤_}
 use mathlib.Core.Path.{_≡_, refl, sym, ap, subst, _∙_}
 use mathlib.Core.Logic.{_⊎_, inl, inr, ⊎-elim}
 use mathlib.Core.Bool.{Bool, true, false, not, false≢true}
-use mathlib.Core.List.{List, [], _++_}
+use mathlib.Core.List.{List, [], _++_, append-nil}
 use lib.Dec.{eqb, ltb}
 use lib.ListN.{length}
 use borrow.Author.Tests.{ltb-false, leb-false, eqb-true, eq-eqb, ne-eqb, not-false}
 use Rattle.laws.specs.Tests.{neither}
-use Rattle.laws.specs.Refusals.{firstOf, numberOf, number-refuses, number-passes, accepted-tells, first-elim, first-map, testAt, refusalAt, Past, refused-at}
+use Rattle.laws.specs.Refusals.{firstOf, numberOf, number-refuses, number-passes, accepted-tells, first-elim, testAt, refusalAt, Past, refused-at}
 use Rattle.laws.specs.Refusals.{past-all, Applies, not-applies, Accepted as Passed, lacks, ascendFrom}
-use Rattle.context.specs.State.{State, withCells, withContext, Outcome, outcome, refusing, telling}
+use Rattle.context.specs.State.{State, state, withCells, withContext, Outcome, outcome, refusing, telling}
 use Rattle.map.specs.declared.Header.{Header}
 use Rattle.drive.specs.Drive.{Whole, driveTests, checkOf}
 use Rattle.drive.specs.declared.Check.the-variants.{Ready, Refused as NotReady}
 use Rattle.drive.specs.Laws.{check-refused, check-passed}
-use Rattle.cache.specs.Cache.{cacheOf, lowestPlace}
-use Rattle.cache.specs.declared.Sought.the-variants.{Empty, Tag}
 use Rattle.erasure.specs.declared.Answer.{Answer}
 use Rattle.erasure.specs.declared.Answer.the-variants.{Ended, Cut, Refused as NotErased}
-use Rattle.erasure.specs.Erasure.{partitionTests, Erasable, uncutOf}
+use Rattle.erasure.specs.Erasure.{uncutOf}
 use Rattle.engine.specs.declared.Order.{Order}
-use Rattle.engine.specs.declared.Order.the-variants.{Nothing, Load, Unload}
+use Rattle.engine.specs.declared.Order.the-variants.{Nothing}
 use Rattle.codec.specs.declared.Command.{Command}
 use Rattle.codec.specs.declared.Command.the-variants.{Clkc, Klod, Kunl, Fers, Fsta, Unknown}
-use Rattle.codec.specs.Fields.{known, Cmd-timeout, requestFields, responseFields, lengthOf, numberAt}
-use Rattle.codec.specs.Fields.{tagAt, commandOf, noNumbers, oneNumber, responseIn, leastRoom}
+use Rattle.codec.specs.Fields.{known, requestFields, responseFields, lengthOf, commandOf, responseIn, leastRoom}
 use Rattle.codec.specs.Request.{requestTests}
 use Rattle.mailbox.specs.declared.Effect.{Effect}
 use Rattle.mailbox.specs.declared.Reply.the-variants.{Refused, Accepted}
-use Rattle.mailbox.specs.Mailbox.{effect, refused, loadOf, unloadOf, fersOf, partitionIn, accepted, loadTests, unloadTests}
-use Rattle.mailbox.specs.Mailbox.{loadEffect, unloadEffect, ownTests, ownDone, buffersBad, laterTests, mailboxTests, doneOf, contextAfter, blockAfter}
-use Rattle.mailbox.specs.Mailbox.{Lent, lent, writtenOut, mailboxOf, loads, Fits}
+use Rattle.mailbox.specs.Mailbox.{refused, fersOf, partitionIn, accepted, loadTests, unloadTests, commandTests, engineTests, ownTests}
+use Rattle.mailbox.specs.Mailbox.{buffersBad, laterTests, mailboxTests, doneOf, contextAfter, blockAfter}
+use Rattle.mailbox.specs.Mailbox.{Lent, lent, writtenOut, mailboxOf, loads, Fits, Allowed}
 
--- ---- what KLOD and KUNL do: which of their tests gives the number, by the test's place, or the effect at the values that were read
+-- ---- a command's own refusals: the number, by the place of the test that gives it
 
 module _ (image request : List ℕ) (s : State) where
-  pub load-at : (k : ℕ) → Past k (loadTests image request s) → testAt (loadTests image request s) k ≡ true → refused (refusalAt (loadTests image request s) k) ≡ loadEffect image request s
-  unfolding loadEffect
-  load-at k = refused-at refused (loadOf (s .context) request) k (loadTests image request s)
+  pub load-at : (k : ℕ) → Past k (loadTests image request s) → testAt (loadTests image request s) k ≡ true
+      → refusalAt (loadTests image request s) k ≡ numberOf (loadTests image request s)
+  load-at k = refused-at (λ n. n) 0 k (loadTests image request s)
 
-  pub load-past : Past 3 (loadTests image request s) → {place tag timeout : ℕ} → place ≡ lowestPlace (cacheOf (s .context)) Empty
-      → tag ≡ tagAt (requestFields Klod) request → timeout ≡ numberAt (requestFields Klod) Cmd-timeout request
-      → effect Klod (Load place timeout) tag (oneNumber place) ≡ loadEffect image request s
-  unfolding loadEffect
-  load-past p l t o = rw (l, t, o) (past-all refused (loadOf (s .context) request) (loadTests image request s) p)
+  pub load-past : Past 3 (loadTests image request s) → 0 ≡ numberOf (loadTests image request s)
+  load-past = past-all (λ n. n) 0 (loadTests image request s)
 
 module _ (context request : List ℕ) where
   pub unload-at : (k : ℕ) → Past k (unloadTests context request) → testAt (unloadTests context request) k ≡ true
-      → refused (refusalAt (unloadTests context request) k) ≡ unloadEffect context request
-  unfolding unloadEffect
-  unload-at k = refused-at refused (unloadOf context request) k (unloadTests context request)
+      → refusalAt (unloadTests context request) k ≡ numberOf (unloadTests context request)
+  unload-at k = refused-at (λ n. n) 0 k (unloadTests context request)
 
-  pub unload-past : Past 1 (unloadTests context request) → {place tag timeout : ℕ} → place ≡ lowestPlace (cacheOf context) (Tag tag)
-      → tag ≡ tagAt (requestFields Kunl) request → timeout ≡ numberAt (requestFields Kunl) Cmd-timeout request
-      → effect Kunl (Unload place timeout) tag noNumbers ≡ unloadEffect context request
-  unfolding unloadEffect
-  unload-past p l t o = rw (l, t, o) (past-all refused (unloadOf context request) (unloadTests context request) p)
+  pub unload-past : Past 1 (unloadTests context request) → 0 ≡ numberOf (unloadTests context request)
+  unload-past = past-all (λ n. n) 0 (unloadTests context request)
 
--- what they do leaves the cells
-module _ (image marks request : List ℕ) (s : State) {e : Effect} where
-  pub load-does : e ≡ loadEffect image request s → outcome e (s .cells) ≡ ownDone Klod image marks request s
-  unfolding loadEffect
-  load-does q = ap (λ (e : Effect). outcome e (s .cells)) q ∙ first-map (λ (e : Effect). outcome e (s .cells)) refused (loadTests image request s) (loadOf (s .context) request)
+module _ (command : Command) (context : List ℕ) where
+  pub engine-at : (k : ℕ) → Past k (engineTests command context) → testAt (engineTests command context) k ≡ true
+      → refusalAt (engineTests command context) k ≡ numberOf (engineTests command context)
+  engine-at k = refused-at (λ n. n) 0 k (engineTests command context)
 
-  pub unload-does : e ≡ unloadEffect (s .context) request → outcome e (s .cells) ≡ ownDone Kunl image marks request s
-  unfolding unloadEffect
-  unload-does q = ap (λ (e : Effect). outcome e (s .cells)) q ∙ first-map (λ (e : Effect). outcome e (s .cells)) refused (unloadTests (s .context) request) (unloadOf (s .context) request)
+  pub engine-past : Past 2 (engineTests command context) → 0 ≡ numberOf (engineTests command context)
+  engine-past = past-all (λ n. n) 0 (engineTests command context)
 
--- ---- what FERS does, at the partition i that was read
+-- none is 0, of the command's nor of all
+not-0 : (command : Command) (image request : List ℕ) (s : State)
+    → (lacks 0 (commandTests command image request s) ≡ true) × (lacks 0 (ownTests command image request s) ≡ true)
+not-0 Clkc image request s = (refl, refl)
+not-0 Klod image request s = (refl, refl)
+not-0 Kunl image request s = (refl, refl)
+not-0 Fers image request s = (refl, refl)
+not-0 Fsta image request s = (refl, refl)
+not-0 Unknown image request s = (refl, refl)
 
-module _ (image marks request : List ℕ) (s : State) {i : ℕ} (named : i ≡ partitionIn request) where
-  abbrev tests : List (Bool × ℕ)
-  tests = partitionTests image i (s .context)
+-- so it is the command's, or else the engine's
+module _ (command : Command) (image request : List ℕ) (s : State) where
+  pub own-first : {n : ℕ} → n ≡ numberOf (commandTests command image request s) → (n ≡ 0 → ⊥) → n ≡ numberOf (ownTests command image request s)
+  own-first e o = sym (number-refuses (λ n. n) (engineTests command (s .context)) 0 (commandTests command image request s) _ e o)
 
-  abbrev erased : Outcome Effect (List ℕ)
-  erased = telling fersOf (uncutOf image (s .cells) marks i)
+  pub own-then : {n : ℕ} → 0 ≡ numberOf (commandTests command image request s) → n ≡ numberOf (engineTests command (s .context))
+      → n ≡ numberOf (ownTests command image request s)
+  own-then z e =
+      e ∙ sym (number-passes (λ n. n) (engineTests command (s .context)) 0 (commandTests command image request s) (not-0 command image request s .0) z .is)
 
-  pub fers-refused : (n : ℕ) → n ≡ numberOf tests → (n ≡ 0 → ⊥) → outcome (refused n) (s .cells) ≡ ownDone Fers image marks request s
-  fers-refused n e o = rw (← named) (sym (number-refuses (refusing refused (s .cells)) [] erased tests n e o))
+-- ---- what FERS does
 
-  module _ (none : 0 ≡ numberOf tests) where
-    passed : Passed tests erased (firstOf (refusing refused (s .cells)) tests erased)
-    passed = number-passes (refusing refused (s .cells)) [] erased tests refl none
+-- past its tests its partition may be erased
+pub own-allowed : (command : Command) (image cells marks context request : List ℕ) → Whole image cells → length marks ≡ length cells
+    → ((k : ℕ) → testAt (ownTests command image request (state cells context)) k ≡ false) → Allowed command image cells marks request
+own-allowed command image cells marks context request whole long none = record {
+  whole = whole;
+  erasable = λ e.
+      let tested : (k : ℕ) → testAt (ownTests Fers image request (state cells context)) k ≡ false = rw e at none in
+      record { whole = whole; marks-long = long; partition = leb-false _ _ (tested 0); may = not-false _ (tested 1) };
+}
 
-    pub fers-erasable : Whole image (s .cells) → length marks ≡ length (s .cells) → Erasable image (s .cells) marks i
-    fers-erasable whole long = record { whole = whole; marks-long = long; partition = leb-false _ _ (passed .none 0); may = not-false _ (passed .none 1) }
-
-    pub fers-does : {answer : Answer} {cells : List ℕ} {e : Effect} → outcome answer cells ≡ uncutOf image (s .cells) marks i → e ≡ fersOf answer
-        → outcome e cells ≡ ownDone Fers image marks request s
-    fers-does {cells = cells} e q = ap (λ (e : Effect). outcome e cells) q ∙ ap (telling fersOf) e ∙ rw (← named) (sym (passed .is))
+-- it does what its erasure answers and leaves
+pub fers-does : {o : Outcome Answer (List ℕ)} {answer : Answer} {cells : List ℕ} {e : Effect} → outcome answer cells ≡ o → e ≡ fersOf answer
+    → outcome e cells ≡ telling fersOf o
+fers-does {cells = cells} q f = ap (λ (e : Effect). outcome e cells) f ∙ ap (telling fersOf) q
 
 -- it orders nothing, whatever its erasure answers
 pub fers-orders : (answer : Answer) → fersOf answer .order ≡ Nothing
@@ -130,13 +132,32 @@ module _ (image marks : List ℕ) (code : ℕ) (request : List ℕ) (room block 
         judged-request n q o =
             sym (past-buffers ∙ rw (← named) (number-refuses refuse (ownTests command image request s) (accepted command image marks request s) (requestTests command code request) n q o))
 
-        pub judged-own : (d : Outcome Effect (List ℕ)) → 0 ≡ numberOf (requestTests command code request) → d ≡ ownDone command image marks request s
-            → d ≡ doneOf image marks code request room block s
-        unfolding requestTests
-        judged-own d z q =
-            q
-            ∙ sym (past-buffers
-            ∙ rw (← named) (number-passes refuse (ownTests command image request s) (accepted command image marks request s) (requestTests command code request) refl z .is))
+        module _ (z : 0 ≡ numberOf (requestTests command code request)) where
+          past-request : doneOf image marks code request room block s ≡ firstOf refuse (ownTests command image request s) (accepted command image marks request s)
+          unfolding requestTests
+          past-request =
+              past-buffers
+              ∙ rw (← named) (number-passes refuse (ownTests command image request s) (accepted command image marks request s) (requestTests command code request) refl z .is)
+
+          -- with no test behind them
+          alone : firstOf refuse (ownTests command image request s) (accepted command image marks request s)
+              ≡ firstOf refuse (ownTests command image request s ++ []) (accepted command image marks request s)
+          alone = ap (λ (tests : List (Bool × ℕ)). firstOf refuse tests (accepted command image marks request s)) (sym (append-nil (ownTests command image request s)))
+
+          pub judged-own : (n : ℕ) → n ≡ numberOf (ownTests command image request s) → (n ≡ 0 → ⊥) → outcome (refused n) (s .cells) ≡ doneOf image marks code request room block s
+          judged-own n q o =
+              sym (past-request ∙ alone ∙ number-refuses refuse [] (accepted command image marks request s) (ownTests command image request s) n q o)
+
+          module _ (none : 0 ≡ numberOf (ownTests command image request s)) where
+            own-passed : Passed (ownTests command image request s) (accepted command image marks request s)
+                (firstOf refuse (ownTests command image request s ++ []) (accepted command image marks request s))
+            own-passed = number-passes refuse [] (accepted command image marks request s) (ownTests command image request s) (not-0 command image request s .1) none
+
+            pub judged-passed : (k : ℕ) → testAt (ownTests command image request s) k ≡ false
+            judged-passed = own-passed .none
+
+            pub judged-done : {d : Outcome Effect (List ℕ)} → d ≡ accepted command image marks request s → d ≡ doneOf image marks code request room block s
+            judged-done q = q ∙ sym (past-request ∙ alone ∙ own-passed .is)
 
 -- ---- what an accepted call tells
 

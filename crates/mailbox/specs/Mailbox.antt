@@ -1,19 +1,19 @@
--- Document 01, "Mailbox" and "Refusal numbers": what a call does, and what it leaves. Assumes nothing.
+-- Document 01, "Mailbox" and "Refusal numbers", and request P5: what a call does, and what it leaves. Assumes nothing.
 use Prim.Native.Nat.{ℕ}
 use mathlib.Core.Path.{_≡_}
-use mathlib.Core.Bool.{Bool, true, false, cond, not, _||_}
+use mathlib.Core.Bool.{Bool, true, false, cond, not, _&&_, _||_}
 use mathlib.Core.List.{List, [], _∷_, _++_}
 use lib.Dec.{eqb, ltb}
 use lib.ListN.{length}
 use Rattle.laws.specs.Refusals.{firstOf}
 use Rattle.context.specs.State.{State, withCells, withContext, Outcome, outcome, refusing, telling}
-use Rattle.drive.specs.Drive.{driveTests, activeSlot, slotNumber, available}
+use Rattle.drive.specs.Drive.{Whole, driveTests, activeSlot, slotNumber, available}
 use Rattle.drive.specs.declared.ActiveSlot.{ActiveSlot}
-use Rattle.cache.specs.Cache.{cacheOf, lowestPlace, hasPlace, loaded, freed, emptied}
-use Rattle.cache.specs.declared.Sought.the-variants.{Empty, Tag}
+use Rattle.cache.specs.Cache.{cacheOf, lowestPlace, hasPlace, busy, loading, unloading, clearing}
+use Rattle.cache.specs.declared.Sought.the-variants.{Empty, Unsure, Tag}
 use Rattle.erasure.specs.declared.Answer.{Answer}
 use Rattle.erasure.specs.declared.Answer.the-variants.{Ended, Cut, Refused as NotErased}
-use Rattle.erasure.specs.Erasure.{partitionTests, uncutOf}
+use Rattle.erasure.specs.Erasure.{partitionTests, Erasable, uncutOf}
 use Rattle.codec.specs.declared.Numbers.{Numbers}
 use Rattle.codec.specs.declared.Command.{Command}
 use Rattle.codec.specs.declared.Command.the-variants.{Clkc, Klod, Kunl, Fers, Fsta, Unknown}
@@ -46,7 +46,7 @@ loadOf context request =
     let place : ℕ = lowestPlace (cacheOf context) Empty in
     effect Klod (Load place (numberAt (requestFields Klod) Cmd-timeout request)) (tagAt (requestFields Klod) request) (oneNumber place)
 
--- "KUNL frees the lowest place that holds its tag"
+-- "KUNL frees the lowest place that holds its tag", once the engine has replied that it is done
 abbrev pub unloadOf : (context request : List ℕ) → Effect
 unloadOf context request =
     let tag : ℕ = tagAt (requestFields Kunl) request in
@@ -95,31 +95,49 @@ unloadTests context request =
     (not (hasPlace (cacheOf context) (Tag (tagAt (requestFields Kunl) request))), 14)
     ∷ []
 
--- what KLOD does by its own refusals, and KUNL
-unfoldable pub loadEffect : (image request : List ℕ) → State → Effect
-loadEffect image request s = firstOf refused (loadTests image request s) (loadOf (s .context) request)
+-- the refusals of a command by itself, up to 14
+abbrev pub commandTests : Command → (image request : List ℕ) → State → List (Bool × ℕ)
+commandTests Clkc image request s = []
+commandTests Klod image request s = loadTests image request s
+commandTests Kunl image request s = unloadTests (s .context) request
+commandTests Fers image request s = partitionTests image (partitionIn request) (s .context)
+commandTests Fsta image request s = []
+commandTests Unknown image request s = []
 
-unfoldable pub unloadEffect : (context request : List ℕ) → Effect
-unloadEffect context request = firstOf refused (unloadTests context request) (unloadOf context request)
+-- "a mailbox command other than FSTA"
+abbrev pub otherThanFsta : Command → Bool
+otherThanFsta Clkc = true
+otherThanFsta Klod = true
+otherThanFsta Kunl = true
+otherThanFsta Fers = true
+otherThanFsta Fsta = false
+otherThanFsta Unknown = true
 
--- the refusals of a command by itself
+-- "KLOD or KUNL"
+abbrev pub klodOrKunl : Command → Bool
+klodOrKunl Clkc = false
+klodOrKunl Klod = true
+klodOrKunl Kunl = true
+klodOrKunl Fers = false
+klodOrKunl Fsta = false
+klodOrKunl Unknown = false
+
+-- 17 "a mailbox command other than FSTA while a reply is awaited or a place waits", 18 "KLOD or KUNL while a place is unsure"
+abbrev pub engineTests : Command → (context : List ℕ) → List (Bool × ℕ)
+engineTests command context =
+    (otherThanFsta command && busy (cacheOf context), 17)
+    ∷ (klodOrKunl command && hasPlace (cacheOf context) Unsure, 18)
+    ∷ []
+
+-- "Refusals, after 14 and before 15"
 abbrev pub ownTests : Command → (image request : List ℕ) → State → List (Bool × ℕ)
-ownTests Clkc image request s = []
-ownTests Klod image request s = loadTests image request s
-ownTests Kunl image request s = unloadTests (s .context) request
-ownTests Fers image request s = partitionTests image (partitionIn request) (s .context)
-ownTests Fsta image request s = []
-ownTests Unknown image request s = []
-
--- what a command does by its own refusals
-abbrev pub ownDone : Command → (image marks request : List ℕ) → State → Outcome Effect (List ℕ)
-ownDone command image marks request s = firstOf (refusing refused (s .cells)) (ownTests command image request s) (accepted command image marks request s)
+ownTests command image request s = commandTests command image request s ++ engineTests command (s .context)
 
 -- 2, "for the mailbox also": "block not 128 or response buffer under 20 bytes"
 abbrev pub buffersBad : (room block : ℕ) → Bool
 buffersBad room block = not (eqb block 128) || ltb room leastRoom
 
--- the refusals of a call after the drive's own: 2 for the buffers, 3 to 6 for the request, 7 to 14 for the command
+-- the refusals of a call after the drive's own: 2 for the buffers, 3 to 6 for the request, 7 to 14, 17 and 18 for the command
 abbrev pub laterTests : Command → (image : List ℕ) (code : ℕ) (request : List ℕ) (bad : Bool) → State → List (Bool × ℕ)
 laterTests command image code request bad s = (bad, 2) ∷ (requestTests command code request ++ ownTests command image request s)
 
@@ -135,12 +153,12 @@ doneOf image marks code request room block s =
 
 -- ---- what an effect leaves
 
--- what an order makes of the context: "CLKC empties it", a load takes its place, an unload frees it
+-- what an order makes of the context: its places wait for the engine's reply (request P5)
 abbrev pub contextBy : Order → (tag : ℕ) (context : List ℕ) → List ℕ
 contextBy Nothing tag context = context
-contextBy (Clear timeout) tag context = emptied context
-contextBy (Load place timeout) tag context = loaded place tag context
-contextBy (Unload place timeout) tag context = freed place context
+contextBy (Clear timeout) tag context = clearing context
+contextBy (Load place timeout) tag context = loading place tag context
+contextBy (Unload place timeout) tag context = unloading place tag context
 
 -- the context
 abbrev pub contextAfter : Effect → (context : List ℕ) → List ℕ
@@ -203,3 +221,8 @@ loads (Unload place timeout) = false
 pub record Fits (order : Order) (request block : List ℕ) : Type 0 where
   pub block-long : length block ≡ 128
   pub request-long : loads order ≡ true → length request ≡ lengthOf (requestFields Klod)
+
+-- what a command asks of the drive, where it is carried out: FERS, a partition that may be erased
+pub record Allowed (command : Command) (image cells marks request : List ℕ) : Type 0 where
+  pub whole : Whole image cells
+  pub erasable : command ≡ Fers → Erasable image cells marks (partitionIn request)

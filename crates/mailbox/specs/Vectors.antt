@@ -14,7 +14,7 @@ use Rattle.map.specs.Image.{image}
 use Rattle.map.specs.Vectors.{two}
 use Rattle.partition.specs.Partition.{shortAt, marked, zeroCell, stateOf}
 use Rattle.drive.specs.Drive.{wholeArrays, surveyAt, slotAt, openSlot, activeSlot}
-use Rattle.cache.specs.Cache.{cacheOf, isAt, placed, emptied}
+use Rattle.cache.specs.Cache.{cacheOf, isAt, placed, turnedBelow}
 use Rattle.engine.specs.Engine.{zeros}
 use Rattle.engine.specs.declared.Order.the-variants.{Clear, Load, Unload}
 use Rattle.codec.specs.Request.{requestTests}
@@ -26,7 +26,7 @@ use Rattle.mailbox.specs.Mailbox.{refused, doneOf, Lent, lent, mailboxOf
 -- a call, by computation: to unfold this is to unfold all that it computes with
 runs : (image marks : List ℕ) (code : ℕ) (request : List ℕ) → Lent → Outcome Reply Lent
 unfolding doneOf requestTests mapGood wholeArrays every headerGood fillerGood entryGood placeGood allBelow u16At u32At activeSlot openSlot
-    slotAt surveyAt stateOf marked shortAt zeroCell countBelow firstFrom onesIn cacheOf isAt placed emptied
+    slotAt surveyAt stateOf marked shortAt zeroCell countBelow firstFrom onesIn cacheOf isAt placed turnedBelow
 runs = mailboxOf
 
 abbrev small : List ℕ
@@ -35,36 +35,40 @@ small = image 2 12 60 8 [] two
 abbrev cells : List ℕ
 cells = 1 ∷ replicate 11 0
 
--- contexts, the kinds of 16 places and then their tags: every place empty, and the tag 0x100000002 in the first
-abbrev no-key : List ℕ
-no-key = zeros 32
+-- contexts, the kinds of 16 places, their tags and the awaited reply: every place empty, and the tag 0x100000002 in the first
+abbrev no-key : (awaited : ℕ) → List ℕ
+no-key awaited = zeros 32 ++ (awaited ∷ [])
 
-abbrev one-key : List ℕ
-one-key = 1 ∷ zeros 15 ++ (0x1_0000_0002 ∷ zeros 15)
+abbrev one-key : (kind awaited : ℕ) → List ℕ
+one-key kind awaited = kind ∷ zeros 15 ++ (0x1_0000_0002 ∷ zeros 15) ++ (awaited ∷ [])
 
 -- a call on the small drive, with a block of sevens and a response buffer of 24 nines
 abbrev call : (context : List ℕ) (code : ℕ) (request : List ℕ) → Outcome Reply Lent
 call context code request = runs small (replicate 12 0) code request (lent (state cells context) (replicate 24 9) (replicate 128 7))
 
--- a load with timeout 5 of that tag with an MEK of threes, and its unload
+-- a load with timeout 5 of that tag with an MEK of threes, and its unload: the place waits, and the reply is awaited
 load :
-    call no-key 0x4B4C_4F44 (bytes4 0xFFFF_FE0E ++ bytes4 0 ++ bytes4 5 ++ bytes4 2 ++ bytes4 1 ++ replicate 64 3)
+    call (no-key 0) 0x4B4C_4F44 (bytes4 0xFFFF_FE0E ++ bytes4 0 ++ bytes4 5 ++ bytes4 2 ++ bytes4 1 ++ replicate 64 3)
     ≡ outcome (Accepted 16 (Load 0 5))
-    (lent (state cells one-key) (zeros 16 ++ replicate 8 9) (replicate 64 3 ++ (2 ∷ 0 ∷ 0 ∷ 0 ∷ 1 ∷ 0 ∷ 0 ∷ 0 ∷ zeros 56)))
+    (lent (state cells (one-key 2 2)) (zeros 16 ++ replicate 8 9) (replicate 64 3 ++ (2 ∷ 0 ∷ 0 ∷ 0 ∷ 1 ∷ 0 ∷ 0 ∷ 0 ∷ zeros 56)))
 unfolding runs
 load = refl
 
 unload :
-    call one-key 0x4B55_4E4C (bytes4 0xFFFF_FEBE ++ bytes4 0 ++ bytes4 5 ++ bytes4 2 ++ bytes4 1)
+    call (one-key 1 0) 0x4B55_4E4C (bytes4 0xFFFF_FEBE ++ bytes4 0 ++ bytes4 5 ++ bytes4 2 ++ bytes4 1)
     ≡ outcome (Accepted 12 (Unload 0 5))
-    (lent (state cells no-key) (zeros 12 ++ replicate 12 9) (zeros 64 ++ (2 ∷ 0 ∷ 0 ∷ 0 ∷ 1 ∷ 0 ∷ 0 ∷ 0 ∷ zeros 56)))
+    (lent (state cells (one-key 2 3)) (zeros 12 ++ replicate 12 9) (zeros 64 ++ (2 ∷ 0 ∷ 0 ∷ 0 ∷ 1 ∷ 0 ∷ 0 ∷ 0 ∷ zeros 56)))
 unfolding runs
 unload = refl
 
--- a clear with timeout 1,000
-clear :
-    call one-key 0x434C_4B43 (bytes4 0xFFFF_FDF8 ++ bytes4 0 ++ bytes4 1000)
-    ≡ outcome (Accepted 12 (Clear 1000)) (lent (state cells no-key) (zeros 12 ++ replicate 12 9) (zeros 128))
+-- a clear with timeout 1,000: of a held place, of an unsure one and of an empty cache
+abbrev clears : (context : List ℕ) → Outcome Reply Lent
+clears context = call context 0x434C_4B43 (bytes4 0xFFFF_FDF8 ++ bytes4 0 ++ bytes4 1000)
+
+abbrev cleared : (context : List ℕ) → Outcome Reply Lent
+cleared context = outcome (Accepted 12 (Clear 1000)) (lent (state cells context) (zeros 12 ++ replicate 12 9) (zeros 128))
+
+clear : map clears (one-key 1 0 ∷ one-key 3 0 ∷ no-key 0 ∷ []) ≡ map cleared (one-key 2 1 ∷ one-key 2 1 ∷ no-key 1 ∷ [])
 unfolding runs
 clear = refl
 
@@ -74,15 +78,23 @@ clear = refl
 abbrev klod : (chksum reserved : ℕ) → List ℕ
 klod chksum reserved = bytes4 chksum ++ bytes4 reserved ++ bytes4 0 ++ bytes4 2 ++ bytes4 0 ++ replicate 64 0
 
--- a full cache that holds tag 2, or is full of others; and the small drive with its slot erased
+-- a full cache that has tag 2, or is full of others, a place of it waiting and one unsure, and a reply awaited; one with an empty place
+-- in front; and the small drive with its slot erased
 abbrev full : (tag : ℕ) → List ℕ
-full tag = replicate 16 1 ++ replicate 16 tag
+full tag = 2 ∷ 3 ∷ replicate 14 1 ++ replicate 16 tag ++ (1 ∷ [])
+
+abbrev room : (second third awaited : ℕ) → List ℕ
+room second third awaited = 0 ∷ second ∷ third ∷ zeros 13 ++ replicate 16 3 ++ (awaited ∷ [])
 
 abbrev erased : List ℕ
 erased = replicate 6 0xFFFF_FFFF ++ replicate 6 0
 
 abbrev does : (image cells context : List ℕ) (code : ℕ) (request : List ℕ) (room block : ℕ) → Effect
 does image cells context code request room block = doneOf image (replicate 12 0) code request room block (state cells context) .told
+
+-- a KUNL of tag 3
+abbrev kunl-3 : List ℕ
+kunl-3 = bytes4 0xFFFF_FEC3 ++ bytes4 0 ++ bytes4 0 ++ bytes4 3 ++ bytes4 0
 
 refusals :
     -- 1 and all the rest
@@ -104,7 +116,21 @@ refusals :
     ∷ does small cells (full 3) 0x4B4C_4F44 (klod 0xFFFF_FED4 0) 20 128
     -- 14
     ∷ does small cells (full 3) 0x4B55_4E4C (bytes4 0xFFFF_FEC4 ++ bytes4 0 ++ bytes4 0 ++ bytes4 2 ++ bytes4 0) 20 128
+    -- 17 with 18: a reply is awaited, a place waits, both; of KLOD, KUNL, CLKC and FERS, which is not FERS's 15
+    ∷ does small cells (room 1 3 9) 0x4B4C_4F44 (klod 0xFFFF_FED4 0) 20 128
+    ∷ does small cells (room 2 3 0) 0x4B4C_4F44 (klod 0xFFFF_FED4 0) 20 128
+    ∷ does small cells (room 2 3 2) 0x4B55_4E4C kunl-3 20 128
+    ∷ does small cells (room 2 3 1) 0x434C_4B43 (bytes4 0xFFFF_FDF8 ++ bytes4 0 ++ bytes4 1000) 20 128
+    ∷ does small cells (zeros 32 ++ (3 ∷ [])) 0x4645_5253 (bytes4 0xFFFF_FED0 ++ bytes4 0 ++ bytes4 0) 20 128
+    -- 18, of an unsure place and of a kind that we never write
+    ∷ does small cells (room 1 3 0) 0x4B4C_4F44 (klod 0xFFFF_FED4 0) 20 128
+    ∷ does small cells (room 9 1 0) 0x4B55_4E4C kunl-3 20 128
     ∷ []
-    ≡ map refused (1 ∷ 2 ∷ 2 ∷ 2 ∷ 3 ∷ 4 ∷ 5 ∷ 6 ∷ 7 ∷ 8 ∷ 10 ∷ 11 ∷ 12 ∷ 13 ∷ 14 ∷ [])
+    ≡ map refused (1 ∷ 2 ∷ 2 ∷ 2 ∷ 3 ∷ 4 ∷ 5 ∷ 6 ∷ 7 ∷ 8 ∷ 10 ∷ 11 ∷ 12 ∷ 13 ∷ 14 ∷ 17 ∷ 17 ∷ 17 ∷ 17 ∷ 17 ∷ 18 ∷ 18 ∷ [])
 unfolding runs
 refusals = refl
+
+-- FSTA alone is carried out while a reply is awaited, a place waits and another is unsure
+waits : does small cells (full 3) 0x4653_5441 (bytes4 0xFFFF_FED2 ++ bytes4 0) 20 128 .refusal ≡ 0
+unfolding runs
+waits = refl

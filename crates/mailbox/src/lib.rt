@@ -3,7 +3,10 @@
 // leaves them. A call is judged and its effect found, for FERS by its erasure; then it is written out
 // unless it is refused: a refusal changes nothing, 15 of FERS too, whose burn has set no fuse. `call`
 // answers for any bytes and any lengths. The definitions are in `specs/Mailbox`, the laws in `specs/Laws`
-// and `specs/Told`. It rests on `codec`, `engine`, `erasure` and what lies below them.
+// and `specs/Told`; a command's own refusals are judged in `judge`. It rests on `codec`, `engine`,
+// `erasure` and what lies below them.
+mod judge;
+
 use cache::Sought;
 use codec::Command;
 use codec::Numbers;
@@ -16,7 +19,7 @@ ghost use mathlib.Core.Path.{_≡_};
 ghost use lib.ListN.{length};
 ghost use Rattle.context.specs.State.{state, outcome};
 ghost use Rattle.drive.specs.Drive.{Whole, activeSlot};
-ghost use Rattle.mailbox.specs.Mailbox.{effect, refused, clearOf, fersOf, statusOf, hekNumber, loadEffect, unloadEffect, ownDone, doneOf, contextAfter, blockAfter, lent, mailboxOf, Fits};
+ghost use Rattle.mailbox.specs.Mailbox.{effect, refused, clearOf, loadOf, unloadOf, fersOf, statusOf, hekNumber, accepted, Allowed, doneOf, contextAfter, blockAfter, lent, mailboxOf, Fits};
 
 // What a command does that is not refused: what the engine is ordered, with the tag, and the numbers
 // of the response after reserved. A refusal has its number, orders nothing and is not responded.
@@ -63,40 +66,30 @@ fn refuse(number: u32) -> Effect
     }
 }
 
-// What KLOD does: refusals 11, 12 and 13.
-fn load_effect(image: &[u8], cells: &[u32], context: &Context, request: &[u8]) -> Effect
-    requires { ⌜ Whole (now image) (now cells) ⌝ }
-    ensures { λ r. ⌜ r ≡ loadEffect (now (image .entry)) (now (request .entry)) (state (now (cells .entry)) (now (context .entry))) ⌝ }
+// What KLOD does: its key goes to the lowest empty place.
+fn load_effect(context: &Context, request: &[u8]) -> Effect
+    ensures { λ r. ⌜ r ≡ loadOf (now (context .entry)) (now (request .entry)) ⌝ }
 {
-    if !drive::is_hek_available(image, cells) {
-        return refuse(11);
-    }
-    let tag = codec::tag_of(request);
-    if cache::has_place(context, Sought::Tag(tag)) {
-        return refuse(12);
-    }
     let place = cache::lowest_place(context, Sought::Empty);
-    if cache::PLACES <= place {
-        return refuse(13);
-    }
     let order = Order::Load {
         place: place,
         timeout: codec::timeout_of(request),
     };
-    effect_with(Command::Klod, order, tag, codec::one_number(place))
+    effect_with(
+        Command::Klod,
+        order,
+        codec::tag_of(request),
+        codec::one_number(place),
+    )
 }
 
-// What KUNL does: refusal 14.
+// What KUNL does: the lowest place that has its tag is to be freed.
 fn unload_effect(context: &Context, request: &[u8]) -> Effect
-    ensures { λ r. ⌜ r ≡ unloadEffect (now (context .entry)) (now (request .entry)) ⌝ }
+    ensures { λ r. ⌜ r ≡ unloadOf (now (context .entry)) (now (request .entry)) ⌝ }
 {
     let tag = codec::tag_of(request);
-    let place = cache::lowest_place(context, Sought::Tag(tag));
-    if cache::PLACES <= place {
-        return refuse(14);
-    }
     let order = Order::Unload {
-        place: place,
+        place: cache::lowest_place(context, Sought::Tag(tag)),
         timeout: codec::timeout_of(request),
     };
     effect_with(Command::Kunl, order, tag, codec::no_numbers())
@@ -120,26 +113,6 @@ fn fers_effect(answer: Answer) -> Effect
         Answer::Refused { number, burns: _ } => refuse(number),
         Answer::Cut { burns: _ } => refuse(15),
     }
-}
-
-// Carries out FERS: refusals 7, 8 and 10, and then the erasure, with 15; and answers what it did.
-fn run_fers(
-    image: &[u8],
-    cells: &mut [u32],
-    marks: &[u32],
-    context: &Context,
-    request: &[u8],
-) -> Effect
-    requires { ⌜ Whole (now image) (now cells) × (length (now marks) ≡ length (now cells)) ⌝ }
-    ensures { λ r. ⌜ outcome r (now (cells .exit))
-        ≡ ownDone Command.Fers (now (image .entry)) (now (marks .entry)) (now (request .entry)) (state (now (cells .entry)) (now (context .entry))) ⌝ }
-{
-    let partition = codec::partition_of(request);
-    let number = erasure::partition_refusal(image, partition, context);
-    if number != 0 {
-        return refuse(number);
-    }
-    fers_effect(erasure::erase_judged(image, cells, marks, partition))
 }
 
 // 1 where the HEK is available, else 0.
@@ -173,8 +146,8 @@ fn clear_effect(request: &[u8]) -> Effect
     effect_with(Command::Clkc, order, 0, codec::no_numbers())
 }
 
-// What a command does, by its own refusals, 7 to 15. FERS alone burns, here: 15 shows only after one.
-fn own_effect(
+// What a command does that nothing refuses but 15. FERS alone burns, here: 15 shows only after one.
+fn carry_out(
     command: Command,
     image: &[u8],
     cells: &mut [u32],
@@ -182,15 +155,20 @@ fn own_effect(
     context: &Context,
     request: &[u8],
 ) -> Effect
-    requires { ⌜ Whole (now image) (now cells) × (length (now marks) ≡ length (now cells)) ⌝ }
+    requires { ⌜ Allowed command (now image) (now cells) (now marks) (now request) ⌝ }
     ensures { λ r. ⌜ outcome r (now (cells .exit))
-        ≡ ownDone command (now (image .entry)) (now (marks .entry)) (now (request .entry)) (state (now (cells .entry)) (now (context .entry))) ⌝ }
+        ≡ accepted command (now (image .entry)) (now (marks .entry)) (now (request .entry)) (state (now (cells .entry)) (now (context .entry))) ⌝ }
 {
     match command {
         Command::Clkc => clear_effect(request),
-        Command::Klod => load_effect(image, cells, context, request),
+        Command::Klod => load_effect(context, request),
         Command::Kunl => unload_effect(context, request),
-        Command::Fers => run_fers(image, cells, marks, context, request),
+        Command::Fers => fers_effect(erasure::erase_judged(
+            image,
+            cells,
+            marks,
+            codec::partition_of(request),
+        )),
         Command::Fsta => status_effect(image, cells),
         Command::Unknown => refuse(3),
     }
@@ -222,7 +200,11 @@ fn effect_of(
             if number != 0 {
                 return refuse(number);
             }
-            own_effect(command, image, cells, marks, context, request)
+            let own = judge::own_refusal(command, image, cells, context, request);
+            if own != 0 {
+                return refuse(own);
+            }
+            carry_out(command, image, cells, marks, context, request)
         }
     }
 }
@@ -234,9 +216,9 @@ fn update_context(context: &mut Context, effect: Effect)
     let order = effect.order;
     match order {
         Order::Nothing => (),
-        Order::Clear { timeout: _ } => cache::clear(context),
-        Order::Load { place, timeout: _ } => cache::load(context, place, effect.tag),
-        Order::Unload { place, timeout: _ } => cache::free(context, place),
+        Order::Clear { timeout: _ } => cache::wait_for_clear(context),
+        Order::Load { place, timeout: _ } => cache::wait_for_load(context, place, effect.tag),
+        Order::Unload { place, timeout: _ } => cache::wait_for_unload(context, place, effect.tag),
     }
 }
 

@@ -1,10 +1,14 @@
--- The answers as numbers, for C: each case of a partition's fields, a map's text, a listing, a reason, a place, an answer, a reply and
--- an engine order. Assumes nothing.
+-- The answers as numbers, for C: each case of a partition's fields, a map's text, a listing, a reason, a place, an answer, a reply, an
+-- engine order; and the engine's reply from its number. Assumes nothing.
 use Prim.Native.Nat.{ℕ}
+use mathlib.Core.Bool.{cond}
+use lib.Dec.{eqb}
 use Rattle.cache.specs.declared.Place.{Place}
-use Rattle.cache.specs.declared.Place.the-variants.{Empty, Held}
+use Rattle.cache.specs.declared.Place.the-variants.{Empty, Waiting, Held, Unsure}
 use Rattle.engine.specs.declared.Order.{Order}
 use Rattle.engine.specs.declared.Order.the-variants.{Nothing, Clear, Load, Unload}
+use Rattle.engine.specs.declared.EngineReply.{EngineReply}
+use Rattle.engine.specs.declared.EngineReply.the-variants.{Done as EngineDone, TimedOut, Failed}
 use Rattle.map.specs.declared.Header.{Header}
 use Rattle.map.specs.declared.Entry.{Entry}
 use Rattle.plan.specs.declared.Answer.{Answer as Writing}
@@ -21,6 +25,8 @@ use Rattle.erasure.specs.declared.Answer.{Answer as Erasure}
 use Rattle.erasure.specs.declared.Answer.the-variants.{Ended, Cut, Refused as RefusedErasure}
 use Rattle.mailbox.specs.declared.Reply.{Reply}
 use Rattle.mailbox.specs.declared.Reply.the-variants.{Refused, Accepted}
+use Rattle.reply.specs.declared.Answer.{Answer as Taking}
+use Rattle.reply.specs.declared.Answer.the-variants.{Taken, Refused as NotTaken}
 use Rattle.sciambrunola.specs.declared.numbers.SciFields.{SciFields}
 use Rattle.sciambrunola.specs.declared.numbers.SciWritten.{SciWritten}
 use Rattle.sciambrunola.specs.declared.numbers.SciListing.{SciListing}
@@ -61,10 +67,12 @@ reasonNumbers (Blank partition) = record { kind = 3; refusal = 0; partition = pa
 reasonNumbers (Torn partition cell ones) = record { kind = 4; refusal = 0; partition = partition; cell = cell; ones = ones }
 reasonNumbers (NoReason number) = bareReason 5 number
 
--- "each empty or holding a 64-bit tag"
+-- "each empty or holding a 64-bit tag"; by request P5 "empty, waiting, held or unsure"
 abbrev pub placeNumbers : Place → SciPlace
 placeNumbers Empty = record { kind = 0; tag = 0 }
 placeNumbers (Held tag) = record { kind = 1; tag = tag }
+placeNumbers (Waiting tag) = record { kind = 2; tag = tag }
+placeNumbers (Unsure tag) = record { kind = 3; tag = tag }
 
 -- "the answer is a word, done, withheld, or refused with its number"
 abbrev pub answerNumbers : Answer → SciAnswer
@@ -91,3 +99,12 @@ orderNumbers length (Unload place timeout) = record { refusal = 0; length = leng
 abbrev pub replyNumbers : Reply → SciReply
 replyNumbers (Refused number) = record { refusal = number; length = 0; order = 0; place = 0; timeout = 0 }
 replyNumbers (Accepted length order) = orderNumbers length order
+
+-- request P5, the engine's reply: "done, timed out, or failed with a vendor number"; a number that is none of the three counts as failed
+abbrev pub engineReply : (number vendor : ℕ) → EngineReply
+engineReply number vendor = cond (eqb number 1) EngineDone (cond (eqb number 2) TimedOut (Failed vendor))
+
+-- that it was taken, or the refusal's number
+abbrev pub takenNumber : Taking → ℕ
+takenNumber Taken = 0
+takenNumber (NotTaken number) = number

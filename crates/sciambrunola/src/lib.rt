@@ -1,11 +1,12 @@
 // What C and Rust call, in a static archive: a map's fields, a map from its text, the states, the
-// reason why no HEK is offered, a place of the key cache, the direct commands, the erasures, the restart
-// and the mailbox, their answers as the numbers of `numbers` and `reasons`. Each function does what the
-// entry point below it does, for any bytes and any lengths, and asks nothing of its caller but what
-// include/sciambrunola.h says of pointers. It rests on `reader`, `plan`, `states`, `reason`, `cache`,
-// `direct`, `erasure` and `mailbox`, and on the array of `context`.
+// reason why no HEK is offered, a place of the key cache, the direct commands, the erasures, the restart,
+// the mailbox and the engine's reply, their answers as the numbers of `numbers`, `reasons` and `replies`.
+// Each function does what the entry point below it does, for any bytes and any lengths, and asks nothing
+// of its caller but what include/sciambrunola.h says of pointers. It rests on `reader`, `plan`, `states`,
+// `reason`, `cache`, `direct`, `erasure`, `mailbox` and `reply`, and on the array of `context`.
 mod numbers;
 mod reasons;
+mod replies;
 
 use context::Context;
 use direct::Command;
@@ -27,8 +28,9 @@ ghost use Rattle.reason.specs.Reason.{reasonOf};
 ghost use Rattle.erasure.specs.Erasure.{erasureOf, cutErasureOf};
 ghost use Rattle.direct.specs.Direct.{directOf};
 ghost use Rattle.mailbox.specs.Mailbox.{lent, mailboxOf};
+ghost use Rattle.reply.specs.Reply.{replyOf};
 ghost use Rattle.sciambrunola.specs.Numbers.{fieldsNumbers, writtenNumbers, listingNumbers, reasonNumbers};
-ghost use Rattle.sciambrunola.specs.Numbers.{placeNumbers, answerNumbers, erasureNumbers, replyNumbers};
+ghost use Rattle.sciambrunola.specs.Numbers.{placeNumbers, answerNumbers, erasureNumbers, replyNumbers, engineReply, takenNumber};
 
 // The fields of a partition.
 #[no_mangle]
@@ -180,4 +182,15 @@ pub extern "C" fn sci_mailbox(
         (lent (state (now (cells .entry)) (now (context .entry))) (now (response .entry)) (now (block .entry)))) ⌝ }
 {
     numbers::flat_reply(mailbox::call(image, cells, marks, context, code, request, response, block))
+}
+
+// The engine's reply to the order that was given last, by its number, with the vendor's number.
+#[no_mangle]
+pub extern "C" fn sci_engine_reply(context: &mut Context, number: u32, vendor: u32) -> u32
+    ensures { λ r. ⌜ outcome r (now (context .exit)) ≡ telling takenNumber (replyOf (engineReply number vendor) (now (context .entry))) ⌝ }
+{
+    replies::flat_taken(reply::take_reply(
+        context,
+        replies::reply_of(number, vendor),
+    ))
 }

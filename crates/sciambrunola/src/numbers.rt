@@ -41,7 +41,8 @@ pub struct SciListing {
     pub partitions: u32,
 }
 
-// What is in a place of the key cache. kind: 0 empty, 1 held; tag: 0 where it is empty.
+// What is in a place of the key cache. kind: 0 empty, 1 held, 2 waiting, 3 unsure; tag: 0 where it is
+// empty.
 #[repr(C)]
 pub struct SciPlace {
     pub kind: u32,
@@ -148,6 +149,8 @@ pub fn flat_place(place: Place) -> SciPlace
     match place {
         Place::Empty => SciPlace { kind: 0, tag: 0 },
         Place::Held(tag) => SciPlace { kind: 1, tag: tag },
+        Place::Waiting(tag) => SciPlace { kind: 2, tag: tag },
+        Place::Unsure(tag) => SciPlace { kind: 3, tag: tag },
     }
 }
 

@@ -3,7 +3,7 @@ use mathlib.Core.Path.{sym, ap, _∙_}
 use Rattle.context.specs.State.{state, outcome}
 use Rattle.mailbox.specs.declared.Effect.{Effect}
 use Rattle.drive.specs.Laws.{judged}
-use Rattle.mailbox.specs.Laws.{judged-drive, judged-buffers, judged-request, judged-own}
+use Rattle.mailbox.specs.Laws.{judged-drive, judged-buffers, judged-request, judged-own, judged-passed, judged-done, own-allowed}
 use borrow.Author.Needs.{needs}
 use Rattle.mailbox.proofs.effect_of.Statement.{statement}
 use Rattle.mailbox.proofs.effect_of.Tie as tie
@@ -27,7 +27,7 @@ same-length : tie.Need-same-length
 same-length c = search needs
 
 returns : tie.Need-returns
-returns c =
+returns c = 
     let ready = c .before .before in
     let a = ready .before .before .before .before .before .before .before .before .args in
     ap (λ (e : Effect). outcome e (a .cells .now)) (c .refuse2 .ensures)
@@ -46,7 +46,7 @@ same-length-2 : tie.Need-same-length-2
 same-length-2 c = search needs
 
 returns-2 : tie.Need-returns-2
-returns-2 c =
+returns-2 c = 
     let request = c .before .before in
     let ready = request .before .before .before in
     let a = ready .before .before .before .before .before .before .before .before .args in
@@ -54,33 +54,62 @@ returns-2 c =
     ∙ judged-request _ _ _ _ _ _ (state (a .cells .now) (a .context .now)) (sym (ready .enum-told .given .1) ∙ ready .before .before .check-drive .ensures) (request .before .before .if1 .left)
     _ (request .before .command-of .ensures) _ (request .request-refusal .ensures) (c .before .if2 .taken)
 
-own-effect-requires : tie.Need-own-effect-requires
-own-effect-requires c κs =
+own-refusal-requires : tie.Need-own-refusal-requires
+own-refusal-requires c κs = 
     let ready = c .before .before .before .before .before in
-    let drive = judged _ _ _ _ (sym (ready .enum-told .given .1) ∙ ready .before .before .check-drive .ensures) in
-    (drive .whole, drive .marks-long ∙ sym (drive .whole .long))
+    judged _ _ _ _ (sym (ready .enum-told .given .1) ∙ ready .before .before .check-drive .ensures) .whole
+
+refuse-requires-4 : tie.Need-refuse-requires-4
+refuse-requires-4 c κs = search needs
 
 same-length-3 : tie.Need-same-length-3
 same-length-3 c = search needs
 
 returns-3 : tie.Need-returns-3
-returns-3 c =
+returns-3 c = 
+    let own = c .before .before in
+    let request = own .before .before .before in
+    let ready = request .before .before .before in
+    let a = ready .before .before .before .before .before .before .before .before .args in
+    ap (λ (e : Effect). outcome e (a .cells .now)) (c .refuse4 .ensures)
+    ∙ judged-own _ _ _ _ _ _ (state (a .cells .now) (a .context .now)) (sym (ready .enum-told .given .1) ∙ ready .before .before .check-drive .ensures) (request .before .before .if1 .left)
+    _ (request .before .command-of .ensures) (sym (own .before .before .if2 .left) ∙ request .request-refusal .ensures) _ (own .own-refusal .ensures) (c .before .if3 .taken)
+
+carry-out-requires : tie.Need-carry-out-requires
+carry-out-requires c κs = 
+    let own = c .before .before in
+    let request = own .before .before .before in
+    let ready = request .before .before .before in
+    let a = ready .before .before .before .before .before .before .before .before .args in
+    let checked = sym (ready .enum-told .given .1) ∙ ready .before .before .check-drive .ensures in
+    let drive = judged _ _ _ _ checked in
+    own-allowed _ (a .image .now) (a .cells .now) (a .marks .now) (a .context .now) (a .request .now) (drive .whole) (drive .marks-long ∙ sym (drive .whole .long))
+    (judged-passed _ _ _ _ (a .room) (a .block) (state (a .cells .now) (a .context .now)) checked (request .before .before .if1 .left)
+    _ (request .before .command-of .ensures) (sym (own .before .before .if2 .left) ∙ request .request-refusal .ensures) (sym (c .before .if3 .left) ∙ own .own-refusal .ensures))
+
+same-length-4 : tie.Need-same-length-4
+same-length-4 c = search needs
+
+returns-4 : tie.Need-returns-4
+returns-4 c = 
     let told = c .before .before in
     let checked = told .before .before in
     let a = checked .before .before .before .before .before .before .args in
     ap (λ (e : Effect). outcome e (a .cells .now)) (c .refuse .ensures)
     ∙ judged-drive _ _ _ _ _ _ (state (a .cells .now) (a .context .now)) _ (sym (told .number .given .1) ∙ checked .check-drive .ensures)
 
-same-length-4 : tie.Need-same-length-4
-same-length-4 c = search needs
+same-length-5 : tie.Need-same-length-5
+same-length-5 c = search needs
 
-returns-4 : tie.Need-returns-4
-returns-4 c =
-    let request = c .before .before .before .before .before in
+returns-5 : tie.Need-returns-5
+returns-5 c = 
+    let own = c .before .before .before .before .before in
+    let request = own .before .before .before in
     let ready = request .before .before .before in
     let a = ready .before .before .before .before .before .before .before .before .args in
-    judged-own _ _ _ _ _ _ (state (a .cells .now) (a .context .now)) (sym (ready .enum-told .given .1) ∙ ready .before .before .check-drive .ensures) (request .before .before .if1 .left)
-    _ (request .before .command-of .ensures) _ (sym (c .before .before .before .before .if2 .left) ∙ request .request-refusal .ensures) (c .before .before .own-effect .ensures)
+    judged-done _ _ _ _ _ _ (state (a .cells .now) (a .context .now)) (sym (ready .enum-told .given .1) ∙ ready .before .before .check-drive .ensures) (request .before .before .if1 .left)
+    _ (request .before .command-of .ensures) (sym (own .before .before .if2 .left) ∙ request .request-refusal .ensures) (sym (c .before .before .before .before .if3 .left) ∙ own .own-refusal .ensures)
+    (c .before .before .carry-out .ensures)
 
 pub effect-of-spec : {M : Type 1} → statement M
 effect-of-spec =
@@ -98,8 +127,12 @@ effect-of-spec =
     refuse-requires-3
     same-length-2
     returns-2
-    own-effect-requires
+    own-refusal-requires
+    refuse-requires-4
     same-length-3
     returns-3
+    carry-out-requires
     same-length-4
-    returns-4)
+    returns-4
+    same-length-5
+    returns-5)

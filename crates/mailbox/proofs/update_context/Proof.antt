@@ -9,32 +9,32 @@ enum-told c = search needs
 enum-told-2 : tie.Need-enum-told-2
 enum-told-2 c = search needs
 
-clear-requires : tie.Need-clear-requires
-clear-requires c κs = search needs
+wait-for-clear-requires : tie.Need-wait-for-clear-requires
+wait-for-clear-requires c κs = search needs
 
 enum-known-order : tie.Need-enum-known-order
 enum-known-order c = search needs
 
-load-requires : tie.Need-load-requires
-load-requires c κs = search needs
+wait-for-load-requires : tie.Need-wait-for-load-requires
+wait-for-load-requires c κs = search needs
 
 enum-known-order-2 : tie.Need-enum-known-order-2
 enum-known-order-2 c = search needs
 
-free-requires : tie.Need-free-requires
-free-requires c κs = search needs
+wait-for-unload-requires : tie.Need-wait-for-unload-requires
+wait-for-unload-requires c κs = search needs
 
 returns : tie.Need-returns
 returns c = search needs
 
 returns-2 : tie.Need-returns-2
-returns-2 c = rw (c .before .before .enum-told2 .given .1) (c .clear .ensures)
+returns-2 c = rw (c .before .before .enum-told2 .given .1) (c .wait-for-clear .ensures)
 
 returns-3 : tie.Need-returns-3
-returns-3 c = rw (c .before .before .before .order .given .1) (c .load .ensures)
+returns-3 c = rw (c .before .before .before .order .given .1) (c .wait-for-load .ensures)
 
 returns-4 : tie.Need-returns-4
-returns-4 c = rw (c .before .before .before .order2 .given .1) (c .free .ensures)
+returns-4 c = rw (c .before .before .before .order2 .given .1) (c .wait-for-unload .ensures)
 
 pub update-context-spec : {M : Type 1} → statement M
 update-context-spec =
@@ -42,11 +42,11 @@ update-context-spec =
     (tie.spec
     enum-told
     enum-told-2
-    clear-requires
+    wait-for-clear-requires
     enum-known-order
-    load-requires
+    wait-for-load-requires
     enum-known-order-2
-    free-requires
+    wait-for-unload-requires
     returns
     returns-2
     returns-3

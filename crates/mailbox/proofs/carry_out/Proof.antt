@@ -1,9 +1,8 @@
--- `mailbox::own_effect` meets its contract: by the command. Assumes nothing.
-use Rattle.context.specs.State.{state}
-use Rattle.mailbox.specs.Laws.{load-does, unload-does}
+-- `mailbox::carry_out` meets its contract: by the command. Assumes nothing.
+use Rattle.mailbox.specs.Laws.{fers-does}
 use borrow.Author.Needs.{needs}
-use Rattle.mailbox.proofs.own_effect.Statement.{statement}
-use Rattle.mailbox.proofs.own_effect.Tie as tie
+use Rattle.mailbox.proofs.carry_out.Statement.{statement}
+use Rattle.mailbox.proofs.carry_out.Tie as tie
 
 enum-told : tie.Need-enum-told
 enum-told c = search needs
@@ -26,8 +25,14 @@ unload-effect-requires c κs = search needs
 enum-told-4 : tie.Need-enum-told-4
 enum-told-4 c = search needs
 
-run-fers-requires : tie.Need-run-fers-requires
-run-fers-requires c κs = search needs
+partition-of-requires : tie.Need-partition-of-requires
+partition-of-requires c κs = search needs
+
+erase-judged-requires : tie.Need-erase-judged-requires
+erase-judged-requires c κs = let start = c .before .before .before .before .before .before .before .before in rw (c .partition-of .ensures) (start .pre .erasable (c .before .before .enum-told4 .given .1))
+
+fers-effect-requires : tie.Need-fers-effect-requires
+fers-effect-requires c κs = search needs
 
 enum-told-5 : tie.Need-enum-told-5
 enum-told-5 c = search needs
@@ -44,27 +49,20 @@ refuse-requires c κs = search needs
 returns : tie.Need-returns
 returns c = rw (c .before .enum-told .given .1, c .clear-effect .ensures)
 
+returns-2 : tie.Need-returns-2
+returns-2 c = rw (c .before .enum-told2 .given .1, c .load-effect .ensures)
+
+returns-3 : tie.Need-returns-3
+returns-3 c = rw (c .before .enum-told3 .given .1, c .unload-effect .ensures)
+
 same-length : tie.Need-same-length
 same-length c = search needs
 
-returns-2 : tie.Need-returns-2
-returns-2 c =
-    let a = c .before .before .before .before .before .before .before .before .args in
-    rw (c .before .before .enum-told2 .given .1) (load-does _ (a .marks .now) _ (state (a .cells .now) (a .context .now)) (c .load-effect .ensures))
-
-returns-3 : tie.Need-returns-3
-returns-3 c =
-    let a = c .before .before .before .before .before .before .before .args in
-    rw (c .before .enum-told3 .given .1) (unload-does (a .image .now) (a .marks .now) _ (state (a .cells .now) (a .context .now)) (c .unload-effect .ensures))
+returns-4 : tie.Need-returns-4
+returns-4 c = let erased = c .before .before .before in let named = erased .before in rw (named .before .before .enum-told4 .given .1, ← named .partition-of .ensures) (fers-does (erased .erase-judged .ensures) (c .fers-effect .ensures))
 
 same-length-2 : tie.Need-same-length-2
 same-length-2 c = search needs
-
-returns-4 : tie.Need-returns-4
-returns-4 c = rw (c .before .before .before .before .enum-told4 .given .1) (c .before .before .run-fers .ensures)
-
-same-length-3 : tie.Need-same-length-3
-same-length-3 c = search needs
 
 returns-5 : tie.Need-returns-5
 returns-5 c = rw (c .before .before .enum-told5 .given .1, c .status-effect .ensures)
@@ -72,8 +70,8 @@ returns-5 c = rw (c .before .before .enum-told5 .given .1, c .status-effect .ens
 returns-6 : tie.Need-returns-6
 returns-6 c = rw (c .before .enum-told6 .given .1, c .refuse .ensures)
 
-pub own-effect-spec : {M : Type 1} → statement M
-own-effect-spec =
+pub carry-out-spec : {M : Type 1} → statement M
+carry-out-spec =
     tie.close
     (tie.spec
     enum-told
@@ -83,17 +81,18 @@ own-effect-spec =
     enum-told-3
     unload-effect-requires
     enum-told-4
-    run-fers-requires
+    partition-of-requires
+    erase-judged-requires
+    fers-effect-requires
     enum-told-5
     status-effect-requires
     enum-told-6
     refuse-requires
     returns
-    same-length
     returns-2
     returns-3
-    same-length-2
+    same-length
     returns-4
-    same-length-3
+    same-length-2
     returns-5
     returns-6)
