@@ -1,4 +1,4 @@
--- Demand 3: every attempt has its form, FERS too, and none leaves a key held. Assumes nothing.
+-- Demand 3: every attempt has its form, FERS too, and each leaves all places empty and no reply awaited. Assumes nothing.
 use Prim.Native.Nat.{ℕ, _≤_}
 use mathlib.Core.Path.{_≡_, refl, sym, ap, subst, _∙_}
 use mathlib.Core.Logic.{⊎-elim}
@@ -12,9 +12,8 @@ use borrow.Author.Tests.{not-false, leb-false, ne-eqb}
 use Rattle.laws.specs.Tests.{decided, cond-keeps}
 use Rattle.laws.specs.Refusals.{firstOf, first-elim, Applies, anyApplies, numberOf, any-refuses, none-accepts, number-applies, not-applies, applies-least}
 use Rattle.context.specs.State.{State, Outcome, outcome, refusing}
-use Rattle.cache.specs.Cache.{cacheOf, hasPlace, emptied}
-use Rattle.cache.specs.Laws.{emptied-held}
-use Rattle.cache.specs.declared.Sought.the-variants.{Held}
+use Rattle.cache.specs.Cache.{cacheOf, AtRest, emptied}
+use Rattle.cache.specs.Laws.{emptied-rest}
 use Rattle.burns.specs.declared.End.{End}
 use Rattle.burns.specs.declared.End.the-variants.{Whole, Stopped, Cut as CutEnd}
 use Rattle.burns.specs.Run.{Tally}
@@ -29,9 +28,9 @@ use Rattle.mailbox.specs.declared.Effect.{Effect}
 use Rattle.mailbox.specs.declared.Reply.the-variants.{Refused, Accepted as Accepted′}
 use Rattle.mailbox.specs.Laws.{fers-orders}
 use Rattle.mailbox.specs.Mailbox.{refused, fersOf, partitionIn, accepted, mailboxTests, doneOf, contextAfter, responseAfter, replyOf, Lent, lent, writtenOut}
-use Rattle.history.specs.Calls.{keyHeld, Call, Direct, Erase, EraseCut, Mailbox, Restart, Told, Replying, lengthIn, replying, told, refusal, after}
+use Rattle.history.specs.Calls.{Call, Direct, Erase, EraseCut, Mailbox, TakeReply, Restart, Told, Replying, lengthIn, replying, told, refusal, after}
 use Rattle.history.specs.Demand3.{Attempt, withBuffers, SameLengths}
-use Rattle.history.specs.Forms.{Does, Quiet, quiet, arrays-same, held-same, Ready, whole-at, Form, refuses, runs, erase-form, cut-uncut}
+use Rattle.history.specs.Forms.{Does, Quiet, quiet, arrays-same, places-same, busy-same, Ready, whole-at, Form, refuses, runs, erase-form, cut-uncut}
 
 -- ---- FERS, on the partition p that its request names
 
@@ -84,7 +83,7 @@ module _ (image marks cells request response block : List ℕ) where
   module _ (s : State) (q : Quiet cells s) (response′ block′ : List ℕ) (l : SameLengths call response′ block′) where
     by-fers : doing s response′ block′ ≡ firstOf (refusing refused (s .cells)) fersTests (erased s)
     unfolding doneOf fersTests
-    by-fers = rw (l .0, l .1, arrays-same image marks cells s q, held-same cells s q)
+    by-fers = rw (l .0, l .1, arrays-same image marks cells s q, places-same cells s q, busy-same cells s q)
 
     -- what is told and left, by what was done
     fers-told : {d : Outcome Effect (List ℕ)} {t : Told} → doing s response′ block′ ≡ d → replying (writtenOut request (lent s response′ block′) d) .told ≡ t
@@ -146,30 +145,33 @@ form image marks i cells (Mailbox code request response block) s q a = by code (
     by code e a =
         subst (λ (code : ℕ). Form image marks i cells (Mailbox code request response block)) (sym e)
         (fers-form image marks cells request response block i s q (subst (λ (code : ℕ). Attempt image marks i (Mailbox code request response block) s) e a))
+form image marks i cells (TakeReply reply) s q a = absurd a
 form image marks i cells Restart s q a = absurd a
 
--- no attempt leaves a key held
-free-erased : (image marks : List ℕ) (i k mask : ℕ) (s : State) → keyHeld s ≡ false → keyHeld (eraseOf image marks i k mask s .after) ≡ false
+-- each leaves all places empty and no reply awaited
+rest-erased : (image marks : List ℕ) (i k mask : ℕ) (s : State) → AtRest (cacheOf (s .context)) → AtRest (cacheOf (eraseOf image marks i k mask s .after .context))
 unfolding eraseOf
-free-erased image marks i k mask s h =
-    first-elim (λ (o : Outcome Answer State). keyHeld (o .after) ≡ false) (refusing unburned s) (eraseTests image marks i s) (burning image marks i k mask s)
+rest-erased image marks i k mask s h =
+    first-elim (λ (o : Outcome Answer State). AtRest (cacheOf (o .after .context))) (refusing unburned s) (eraseTests image marks i s) (burning image marks i k mask s)
     (λ n _. h) (λ none. h)
 
-pub free-after : (image marks : List ℕ) (i : ℕ) (call : Call) (s : State) → Attempt image marks i call s → keyHeld s ≡ false → keyHeld (after image marks call s) ≡ false
+pub rest-after : (image marks : List ℕ) (i : ℕ) (call : Call) (s : State) → Attempt image marks i call s → AtRest (cacheOf (s .context))
+    → AtRest (cacheOf (after image marks call s .context))
 unfolding doneOf
-free-after image marks i (Direct command) s a h = absurd a
-free-after image marks i (Erase j) s a h = free-erased image marks j never 0 s h
-free-after image marks i (EraseCut j k mask) s a h =
+rest-after image marks i (Direct command) s a h = absurd a
+rest-after image marks i (Erase j) s a h = rest-erased image marks j never 0 s h
+rest-after image marks i (EraseCut j k mask) s a h =
     let o = eraseOf image marks j k mask s in
-    cond-keeps (λ (context : List ℕ). hasPlace (cacheOf context) Held ≡ false) (isCut (o .told)) (emptied (o .after .context)) (o .after .context)
-    (λ _. emptied-held (o .after .context)) (λ _. free-erased image marks j k mask s h)
-free-after image marks i (Mailbox code request response block) s a h = by code (a .0)
+    cond-keeps (λ (context : List ℕ). AtRest (cacheOf context)) (isCut (o .told)) (emptied (o .after .context)) (o .after .context)
+    (λ _. emptied-rest (o .after .context)) (λ _. rest-erased image marks j k mask s h)
+rest-after image marks i (Mailbox code request response block) s a h = by code (a .0)
   where
-    by : (code : ℕ) → code ≡ codeOf Fers → keyHeld (after image marks (Mailbox code request response block) s) ≡ false
+    by : (code : ℕ) → code ≡ codeOf Fers → AtRest (cacheOf (after image marks (Mailbox code request response block) s .context))
     by code e =
         rw e
-        (first-elim (λ (d : Outcome Effect (List ℕ)). hasPlace (cacheOf (contextAfter (d .told) (s .context))) Held ≡ false)
+        (first-elim (λ (d : Outcome Effect (List ℕ)). AtRest (cacheOf (contextAfter (d .told) (s .context))))
         (refusing refused (s .cells)) (mailboxTests image marks (codeOf Fers) request (length response) (length block) s) (accepted Fers image marks request s)
         (λ n _. h)
         (λ none. rw (fers-orders (uncutOf image (s .cells) marks (partitionIn request) .told)) h))
-free-after image marks i Restart s a h = absurd a
+rest-after image marks i (TakeReply reply) s a h = absurd a
+rest-after image marks i Restart s a h = absurd a

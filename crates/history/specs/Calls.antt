@@ -4,9 +4,9 @@ use Prim.Native.Nat.{ℕ}
 use mathlib.Core.Bool.{Bool}
 use mathlib.Core.List.{List, [], _∷_}
 use lib.ListN.{take}
-use Rattle.context.specs.State.{State, Outcome, outcome, telling}
+use Rattle.context.specs.State.{State, Outcome, outcome, telling, onContext}
 use Rattle.cache.specs.Cache.{cacheOf, hasPlace}
-use Rattle.cache.specs.declared.Sought.the-variants.{Held}
+use Rattle.cache.specs.declared.Sought.the-variants.{Occupied}
 use Rattle.direct.specs.declared.Command.{Command}
 use Rattle.direct.specs.declared.Answer.{Answer}
 use Rattle.direct.specs.declared.Answer.the-variants.{Word, Done, Withheld, Refused as RefusedDirect}
@@ -17,10 +17,14 @@ use Rattle.erasure.specs.Erasure.{erasureOf, cutErasureOf, restarted}
 use Rattle.mailbox.specs.declared.Reply.{Reply}
 use Rattle.mailbox.specs.declared.Reply.the-variants.{Refused, Accepted}
 use Rattle.mailbox.specs.Mailbox.{Lent, lent, mailboxOf}
+use Rattle.engine.specs.declared.EngineReply.{EngineReply}
+use Rattle.reply.specs.declared.Answer.{Answer as ReplyAnswer}
+use Rattle.reply.specs.declared.Answer.the-variants.{Taken, Refused as NotTaken}
+use Rattle.reply.specs.Reply.{takingOf}
 
--- a key is held in a state
-abbrev pub keyHeld : State → Bool
-keyHeld s = hasPlace (cacheOf (s .context)) Held
+-- a place is not empty in a state
+abbrev pub occupied : State → Bool
+occupied s = hasPlace (cacheOf (s .context)) Occupied
 
 -- a call of an entry point, with everything that it is lent besides the drive and the context
 pub data Call : Type 0 where
@@ -28,13 +32,16 @@ pub data Call : Type 0 where
   Erase : (i : ℕ) → Call
   EraseCut : (i k mask : ℕ) → Call
   Mailbox : (code : ℕ) (request response block : List ℕ) → Call
+  TakeReply : EngineReply → Call
   Restart : Call
 
--- what it tells: a direct command's answer, an erasure's, the mailbox's reply with the bytes of the response, or nothing
+-- what it tells: a direct command's answer, an erasure's, the mailbox's reply with the bytes of the response, what came of the engine's
+-- reply, or nothing
 pub data Told : Type 0 where
   Answering : Answer → Told
   Erasing : Erasure → Told
   Replying : Reply → (response : List ℕ) → Told
+  Taking : ReplyAnswer → Told
   Silent : Told
 
 -- the bytes of a response
@@ -52,6 +59,7 @@ outcomeOf image marks (Direct command) s = telling Answering (directOf image mar
 outcomeOf image marks (Erase i) s = telling Erasing (erasureOf image marks i s)
 outcomeOf image marks (EraseCut i k mask) s = telling Erasing (cutErasureOf image marks i k mask s)
 outcomeOf image marks (Mailbox code request response block) s = replying (mailboxOf image marks code request (lent s response block))
+outcomeOf image marks (TakeReply reply) s = telling Taking (onContext s (takingOf reply (s .context)))
 outcomeOf image marks Restart s = outcome Silent (restarted s)
 
 -- its two halves
@@ -72,6 +80,8 @@ refusal (Erasing (Cut burns)) = 0
 refusal (Erasing (RefusedErasure number burns)) = number
 refusal (Replying (Refused number) response) = number
 refusal (Replying (Accepted length order) response) = 0
+refusal (Taking Taken) = 0
+refusal (Taking (NotTaken number)) = number
 refusal Silent = 0
 
 -- "each call gets the cells and cache that the one before left, refused or not"

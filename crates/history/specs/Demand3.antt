@@ -13,13 +13,12 @@ use Rattle.map.specs.Map.{headerOf, entryOf, endOf, software, zeroizable, mapGo
 use Rattle.fuse.specs.Fuse.{free}
 use Rattle.burns.specs.Run.{order}
 use Rattle.drive.specs.Drive.{wholeArrays, markedAt}
-use Rattle.cache.specs.Cache.{cacheOf, hasPlace}
-use Rattle.cache.specs.declared.Sought.the-variants.{Held}
+use Rattle.cache.specs.Cache.{cacheOf, AtRest}
 use Rattle.erasure.specs.Parts.{Outside}
 use Rattle.codec.specs.declared.Command.the-variants.{Fers}
 use Rattle.codec.specs.Fields.{codeOf}
 use Rattle.mailbox.specs.Mailbox.{partitionIn}
-use Rattle.history.specs.Calls.{keyHeld, Call, Direct, Erase, EraseCut, Mailbox, Restart, told, refusal, after, afterAll}
+use Rattle.history.specs.Calls.{Call, Direct, Erase, EraseCut, Mailbox, TakeReply, Restart, told, refusal, after, afterAll}
 
 -- ---- attempts and histories
 
@@ -32,6 +31,7 @@ module _ (image marks : List ℕ) where
   Attempt i (Mailbox code request response block) s =
       let number : ℕ = refusal (told image marks (Mailbox code request response block) s) in
       (code ≡ codeOf Fers) × ((partitionIn request ≡ i) ⊎ ((1 ≤ number) × (number ≤ 6)))
+  Attempt i (TakeReply reply) s = ⊥
   Attempt i Restart s = ⊥
 
   -- "A cut erasure that is refused, or whose order ends before burn k, is uncut"; and so is every call that names no cut
@@ -41,6 +41,7 @@ module _ (image marks : List ℕ) where
   Uncut (EraseCut j k mask) s =
       (1 ≤ refusal (told image marks (EraseCut j k mask) s)) ⊎ (length (order (software (entryOf image j)) (entryOf image j .n)) ≤ k)
   Uncut (Mailbox code request response block) s = Unit {0}
+  Uncut (TakeReply reply) s = Unit {0}
   Uncut Restart s = Unit {0}
 
   -- "an accepted attempt runs uncut to its end"
@@ -68,6 +69,7 @@ withBuffers (Direct command) response′ block′ = Direct command
 withBuffers (Erase i) response′ block′ = Erase i
 withBuffers (EraseCut i k mask) response′ block′ = EraseCut i k mask
 withBuffers (Mailbox code request response block) response′ block′ = Mailbox code request response′ block′
+withBuffers (TakeReply reply) response′ block′ = TakeReply reply
 withBuffers Restart response′ block′ = Restart
 
 -- of the same lengths
@@ -76,12 +78,14 @@ SameLengths (Direct command) response′ block′ = Unit {0}
 SameLengths (Erase i) response′ block′ = Unit {0}
 SameLengths (EraseCut i k mask) response′ block′ = Unit {0}
 SameLengths (Mailbox code request response block) response′ block′ = (length response′ ≡ length response) × (length block′ ≡ length block)
+SameLengths (TakeReply reply) response′ block′ = Unit {0}
 SameLengths Restart response′ block′ = Unit {0}
 
--- "the same call, same request and buffer lengths, made alone from the starting cells and an empty cache"
+-- "the same call, same request and buffer lengths, made alone from the starting cells and an empty cache", and as request P5 says of the
+-- start, with no reply awaited
 pub record Alone (call : Call) : Type 0 where
   pub context : List ℕ
-  pub none-held : hasPlace (cacheOf context) Held ≡ false
+  pub at-rest : AtRest (cacheOf context)
   pub response : List ℕ
   pub block : List ℕ
   pub same : SameLengths call response block
@@ -113,9 +117,10 @@ pub record Claim (image marks : List ℕ) (i : ℕ) (start : State) (calls : Lis
   -- "No fuse outside it has changed"
   pub outside : (j : ℕ) → Outside image i j → Same start now j
   pub as-many : length (now .cells) ≡ length (start .cells)
-  -- "and no set fuse was cleared"; no key is held, so that every state reached is again a start: no single attempt clears one either
+  -- "and no set fuse was cleared"; all places are empty and no reply is awaited, so that every state reached is again a start: no single
+  -- attempt clears one either
   pub none-cleared : (j : ℕ) → getD (start .cells) j 0 ⊆ getD (now .cells) j 0
-  pub no-key-held : keyHeld now ≡ false
+  pub at-rest : AtRest (cacheOf (now .context))
   -- "Once an accepted attempt runs uncut to its end, the set fuses of the partition are exactly those set at the start and those that are
   -- not stuck"
   pub exactly : Finished image marks i calls start → (j : ℕ) → InPartition image i j → getD (now .cells) j 0 ≡ bitOr (getD (start .cells) j 0) (free (getD marks j 0))
@@ -135,9 +140,10 @@ pub record Claim (image marks : List ℕ) (i : ℕ) (start : State) (calls : Lis
   pub not-zeroizable-refused : zeroizable (entryOf image i) ≡ false → (call : Call) → Attempt image marks i call now
       → (1 ≤ refusal (told image marks call now)) × (after image marks call now ≡ withCells (start .cells) now)
 
--- demand 3: any map, marks and partition, any cells at the start and no key held, and every history from there
+-- demand 3: any map, marks and partition, any cells at the start, where request P5 says: "Demand 3 begins with all places empty, no reply
+-- awaited", and every history from there
 abbrev pub Demand3 : Type 0
 Demand3 =
-    (image marks : List ℕ) (i : ℕ) (start : State) → keyHeld start ≡ false
+    (image marks : List ℕ) (i : ℕ) (start : State) → AtRest (cacheOf (start .context))
     → (calls : List Call) → History image marks i calls start
     → Claim image marks i start calls (afterAll image marks calls start)

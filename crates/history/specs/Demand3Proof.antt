@@ -13,7 +13,7 @@ use Rattle.context.specs.State.{State}
 use Rattle.map.specs.Map.{headerOf, entryOf, endOf, zeroizable, mapGood}
 use Rattle.fuse.specs.Fuse.{free}
 use Rattle.drive.specs.Drive.{wholeArrays, markedAt}
-use Rattle.cache.specs.Laws.{emptied-held}
+use Rattle.cache.specs.Laws.{emptied-rest}
 use Rattle.burns.specs.Cells.{full}
 use Rattle.burns.specs.Run.{goesOn}
 use Rattle.burns.specs.Stops.{on-marked}
@@ -30,7 +30,7 @@ module _ (image marks : List ℕ) (i : ℕ) (cells : List ℕ) where
   -- ---- every history
 
   reached-restart : (s : State) → Reached image marks i cells s → Reached image marks i cells (after image marks Restart s)
-  reached-restart s r = reached-same image marks i cells s (after image marks Restart s) r refl (emptied-held (s .context))
+  reached-restart s r = reached-same image marks i cells s (after image marks Restart s) r refl (emptied-rest (s .context))
 
   reached-call : (call : Call) (s : State) → Reached image marks i cells s → Attempt image marks i call s ⊎ (call ≡ Restart) → Reached image marks i cells (after image marks call s)
   reached-call call s r (inl a) = reached-attempt image marks i cells call s r a
@@ -147,7 +147,7 @@ demand-3 image marks i start h calls history =
       outside = r .outside;
       as-many = r .quiet .long;
       none-cleared = none-cleared-by image marks i cells now r;
-      no-key-held = r .quiet .free;
+      at-rest = r .quiet .rest;
       exactly = λ f j inside. filled-at image marks i cells j inside (now .cells) (filled-all image marks i cells calls start (reached-start image marks i cells start refl h) history (inr f));
       same-answer = λ call a u alone. alone-answer image marks i cells call now r a u alone;
       same-cells = λ call a u z alone. alone-cells image marks i cells call now r a u alone z;

@@ -26,8 +26,8 @@ use Rattle.mailbox.specs.declared.Effect.{Effect}
 use Rattle.mailbox.specs.Laws.{fers-or-plain}
 use Rattle.mailbox.specs.Told.{mailbox-elim}
 use Rattle.mailbox.specs.Mailbox.{refused, fersOf, partitionIn, accepted, doneOf, replyOf}
-use Rattle.history.specs.Calls.{Call, Direct, Erase, EraseCut, Mailbox, Restart, Erasing, Replying, told, refusal}
-use Rattle.history.specs.Refused.{reply-number, direct-stays}
+use Rattle.history.specs.Calls.{Call, Direct, Erase, EraseCut, Mailbox, TakeReply, Restart, Erasing, Replying, told, refusal}
+use Rattle.history.specs.Refused.{reply-number, direct-stays, reply-stays}
 
 -- ---- the claim
 
@@ -38,6 +38,7 @@ BurnsIndicator (Direct command) i = ⊥
 BurnsIndicator (Erase j) i = j ≡ i
 BurnsIndicator (EraseCut j k mask) i = (j ≡ i) × (1 ≤ k)
 BurnsIndicator (Mailbox code request response block) i = (code ≡ codeOf Fers) × (partitionIn request ≡ i)
+BurnsIndicator (TakeReply reply) i = ⊥
 BurnsIndicator Restart i = ⊥
 
 -- no other number is given
@@ -143,5 +144,9 @@ fifteen image marks s (EraseCut j k mask) = record {
 fifteen image marks s (Mailbox code request response block) = record {
   exactly = λ i e. rw (e .0, ← e .1) (mailbox-exactly image marks s request (length response) (length block));
   only = λ z. (partitionIn request, (only-fers image marks s code request (length response) (length block) z, refl));
+}
+fifteen image marks s (TakeReply reply) = record {
+  exactly = λ i e. absurd e;
+  only = λ z. absurd (reply-stays image marks s reply (omega arith) .1 z);
 }
 fifteen image marks s Restart = record { exactly = λ i e. absurd e; only = λ z. absurd (omega arith) }

@@ -13,8 +13,8 @@ use Rattle.laws.specs.Refusals.{firstOf, Applies, anyApplies, numberOf, any-ref
 use Rattle.context.specs.State.{State, state, Outcome, refusing}
 use Rattle.map.specs.Map.{headerOf, entryOf, zeroizable, mapGood}
 use Rattle.drive.specs.Drive.{Whole as WholeDrive, wholeArrays}
-use Rattle.cache.specs.Cache.{emptied}
-use Rattle.cache.specs.Laws.{emptied-held}
+use Rattle.cache.specs.Cache.{cacheOf, busy, AtRest, emptied}
+use Rattle.cache.specs.Laws.{emptied-rest, rest-idle}
 use Rattle.burns.specs.declared.End.{End}
 use Rattle.burns.specs.declared.End.the-variants.{Stopped, Cut as CutEnd}
 use Rattle.burns.specs.Run.{Tally, Ran}
@@ -22,7 +22,7 @@ use Rattle.erasure.specs.declared.Answer.{Answer}
 use Rattle.erasure.specs.declared.Answer.the-variants.{Refused as RefusedErasure}
 use Rattle.erasure.specs.Erasure.{runOn, answerBy, ranOf, unburned, eraseTests, burning, eraseOf}
 use Rattle.erasure.specs.Cuts.{past-order, whole-by}
-use Rattle.history.specs.Calls.{keyHeld, Call, Direct, Erase, EraseCut, Mailbox, Restart, Told, Erasing, told, refusal, after}
+use Rattle.history.specs.Calls.{occupied, Call, Direct, Erase, EraseCut, Mailbox, TakeReply, Restart, Told, Erasing, told, refusal, after}
 use Rattle.history.specs.Demand3.{Uncut, withBuffers, SameLengths}
 
 -- a call as it was lent: with its own buffers
@@ -37,6 +37,7 @@ own (Direct command) = record { response = []; block = []; same = tt; is = refl 
 own (Erase i) = record { response = []; block = []; same = tt; is = refl }
 own (EraseCut i k mask) = record { response = []; block = []; same = tt; is = refl }
 own (Mailbox code request response block) = record { response = response; block = block; same = (refl, refl); is = refl }
+own (TakeReply reply) = record { response = []; block = []; same = tt; is = refl }
 own Restart = record { response = []; block = []; same = tt; is = refl }
 
 -- a call tells t and leaves the cells c
@@ -53,22 +54,25 @@ as-lent image marks call s {t} {c} f =
     let o = own call in
     subst (λ (x : Call). Does image marks x s t c) (o .is) (f (o .response) (o .block) (o .same))
 
--- a state that a history reaches has as many cells as the start, and no key held
+-- a state that a history reaches has as many cells as the start, all places are empty, and no reply is awaited
 pub record Quiet (cells : List ℕ) (s : State) : Type 0 where
   pub long : length (s .cells) ≡ length cells
-  pub free : keyHeld s ≡ false
+  pub rest : AtRest (cacheOf (s .context))
 
--- so the tests on arrays and keys say the same there
+-- so the tests on arrays, places and the awaited reply say the same there
 pub arrays-same : (image marks cells : List ℕ) (s : State) → Quiet cells s → wholeArrays image (s .cells) marks ≡ wholeArrays image cells marks
 unfolding wholeArrays
 arrays-same image marks cells s q = rw (q .long)
 
--- the start, with nothing held
+-- the start, at rest
 abbrev pub quiet : (cells : List ℕ) → State
 quiet cells = state cells (emptied [])
 
-pub held-same : (cells : List ℕ) (s : State) → Quiet cells s → keyHeld s ≡ keyHeld (quiet cells)
-held-same cells s q = q .free ∙ sym (emptied-held [])
+pub places-same : (cells : List ℕ) (s : State) → Quiet cells s → occupied s ≡ occupied (quiet cells)
+places-same cells s q = q .rest .all-empty ∙ sym (emptied-rest [] .all-empty)
+
+pub busy-same : (cells : List ℕ) (s : State) → Quiet cells s → busy (cacheOf (s .context)) ≡ busy (cacheOf (emptied []))
+busy-same cells s q = rest-idle (cacheOf (s .context)) (q .rest) ∙ sym (rest-idle (cacheOf (emptied [])) (emptied-rest []))
 
 module _ (image marks : List ℕ) (i : ℕ) (cells : List ℕ) where
   -- nothing refuses an erasure before its run
@@ -109,7 +113,7 @@ module _ (image marks : List ℕ) (i : ℕ) (cells : List ℕ) where
 
     by-tests : (s : State) → Quiet cells s → erasing s ≡ firstOf (refusing unburned s) startTests (burning image marks i k mask s)
     unfolding eraseOf startTests
-    by-tests s q = rw (arrays-same image marks cells s q, held-same cells s q)
+    by-tests s q = rw (arrays-same image marks cells s q, places-same cells s q)
 
     -- of a call that is this erasure, and uncut only if the run is
     pub erase-form : (call : Call)

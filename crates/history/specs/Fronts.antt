@@ -3,10 +3,10 @@
 use Prim.Native.Nat.{ℕ}
 use mathlib.Core.Path.{_≡_}
 use mathlib.Core.Logic.{_⊎_}
-use mathlib.Core.Bool.{false}
 use mathlib.Core.List.{List, [], _∷_, _++_}
 use Rattle.context.specs.State.{State}
-use Rattle.history.specs.Calls.{keyHeld, Call, Restart, after, afterAll}
+use Rattle.cache.specs.Cache.{cacheOf, AtRest}
+use Rattle.history.specs.Calls.{Call, Restart, after, afterAll}
 use Rattle.history.specs.Demand3.{Attempt, History, Claim}
 use Rattle.history.specs.Demand3Proof.{demand-3}
 
@@ -21,6 +21,6 @@ module _ (image marks : List ℕ) (i : ℕ) where
   next [] call rest s h = h .0
   next (first ∷ calls) call rest s h = next calls call rest (after image marks first s) (h .1)
 
-  pub after-each : (start : State) → keyHeld start ≡ false → (calls rest : List Call) → History image marks i (calls ++ rest) start
+  pub after-each : (start : State) → AtRest (cacheOf (start .context)) → (calls rest : List Call) → History image marks i (calls ++ rest) start
       → Claim image marks i start calls (afterAll image marks calls start)
-  after-each start free calls rest h = demand-3 image marks i start free calls (front calls rest start h)
+  after-each start rested calls rest h = demand-3 image marks i start rested calls (front calls rest start h)

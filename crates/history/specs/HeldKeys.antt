@@ -1,5 +1,6 @@
 -- Document 01, "Active slot and key cache": "From an empty cache, therefore, with map and marks fixed and fuses and cache changed only by
--- these commands, cuts and restarts, places are held only while the HEK is available". Assumes nothing.
+-- these commands, cuts and restarts, places are held only while the HEK is available"; with request P5, of every place that is not empty,
+-- and of the engine's replies too. Assumes nothing.
 use Prim.Native.Nat.{ℕ, _≤_, _<_}
 use mathlib.Core.Path.{_≡_, refl, sym, ap, subst, _∙_}
 use mathlib.Core.Logic.{⊎-elim, inl, inr}
@@ -22,8 +23,9 @@ use Rattle.word.specs.Word.{wordAt}
 use Rattle.word.specs.Laws.{Found, word-tells}
 use Rattle.drive.specs.Drive.{wholeArrays, cellsOf, activeSlot, available, slotInUse}
 use Rattle.drive.specs.Laws.{active-same}
-use Rattle.cache.specs.Cache.{emptied}
-use Rattle.cache.specs.Laws.{emptied-held, freed-held}
+use Rattle.cache.specs.Cache.{cacheOf, emptied}
+use Rattle.cache.specs.declared.Sought.the-variants.{Tag}
+use Rattle.cache.specs.Laws.{emptied-rest, has-occupied, tag-occupies, clearing-occupied, settled-occupied}
 use Rattle.direct.specs.declared.Command.{Command}
 use Rattle.direct.specs.declared.Command.the-variants.{Read, Write, Zeroize}
 use Rattle.direct.specs.declared.Answer.{Answer}
@@ -32,7 +34,7 @@ use Rattle.direct.specs.Direct.{cellOf, changesSlot, directTests, cellsAfter, c
 use Rattle.direct.specs.Laws.{direct-at}
 use Rattle.codec.specs.declared.Command.{Command as Command′}
 use Rattle.codec.specs.declared.Command.the-variants.{Clkc, Klod, Kunl, Fers, Fsta, Unknown}
-use Rattle.codec.specs.Fields.{commandOf, known}
+use Rattle.codec.specs.Fields.{commandOf, known, requestFields, tagAt}
 use Rattle.erasure.specs.declared.Answer.{Answer as Erasure}
 use Rattle.erasure.specs.Erasure.{eraseTests, never, runOn, unburned, burning, eraseOf, uncutOf, isCut}
 use Rattle.erasure.specs.Parts.{Apart, run-apart}
@@ -41,13 +43,17 @@ use Rattle.mailbox.specs.declared.Effect.{Effect}
 use Rattle.mailbox.specs.Laws.{fers-orders}
 use Rattle.mailbox.specs.Told.{mailbox-elim}
 use Rattle.mailbox.specs.Mailbox.{partitionIn, accepted, ownTests, stateAfter}
-use Rattle.history.specs.Calls.{keyHeld, Call, Direct, Erase, EraseCut, Mailbox, Restart, after, afterAll}
+use Rattle.engine.specs.declared.EngineReply.{EngineReply}
+use Rattle.reply.specs.declared.Answer.{Answer as ReplyAnswer}
+use Rattle.reply.specs.Reply.{kindAfter}
+use Rattle.reply.specs.Laws.{reply-elim}
+use Rattle.history.specs.Calls.{occupied, Call, Direct, Erase, EraseCut, Mailbox, TakeReply, Restart, after, afterAll}
 
 -- ---- the claim
 
--- "places are held only while the HEK is available"
+-- "places are held only while the HEK is available": waiting and unsure ones too
 abbrev pub Safe : (image : List ℕ) → State → Type 0
-Safe image s = keyHeld s ≡ true → available (activeSlot image (s .cells)) ≡ true
+Safe image s = occupied s ≡ true → available (activeSlot image (s .cells)) ≡ true
 
 -- ---- what changes no slot
 
@@ -76,11 +82,11 @@ word-kept image good {k} {i} {role} {wide} found no-slot marks v cells =
 -- ---- one call
 
 module _ (image marks : List ℕ) (s : State) (safe : Safe image s) where
-  -- an empty cache holds nothing
+  -- an empty cache has no place that is occupied
   none-safe : (t : State) → Safe image (withContext (emptied (t .context)) t)
-  none-safe t h = absurd (false≢true (sym (emptied-held (t .context)) ∙ h))
+  none-safe t h = absurd (false≢true (sym (emptied-rest (t .context) .all-empty) ∙ h))
 
-  -- a direct command that is not refused changes no slot while a place is held
+  -- a direct command that is not refused changes no slot while a place is occupied
   word-safe : (command : Command) (i : ℕ) (role : Role) (wide : Bool) → mapGood image ≡ true → Found image (cellOf command) i role wide
       → changesSlot command image i (s .context) ≡ false → Safe image (withCells (cellsAfter command wide marks (s .cells)) s)
   unfolding cellsAfter changesSlot
@@ -117,22 +123,23 @@ module _ (image marks : List ℕ) (s : State) (safe : Safe image s) where
       (λ n _. safe)
       (λ none. run-safe i k mask (not-false _ (none 0)) (not-false _ (none 1)) (leb-false _ _ (none 2)) (none 4))
 
-  -- a cut leaves no place held
+  -- a cut leaves no place occupied
   cut-safe : (i k mask : ℕ) → Safe image (after image marks (EraseCut i k mask) s)
   cut-safe i k mask =
       let o = eraseOf image marks i k mask s in
       cond-keeps (λ (context : List ℕ). Safe image (withContext context (o .after))) (isCut (o .told)) (emptied (o .after .context)) (o .after .context)
       (λ _. none-safe (o .after)) (λ _. erase-safe i k mask)
 
-  -- of the mailbox's commands a load alone adds a held place, and it needs the HEK; FERS alone changes fuses
+  -- of the mailbox's commands a load alone occupies a place, and it needs the HEK; FERS alone changes fuses
   abbrev DoneSafe : Outcome Effect (List ℕ) → Type 0
   DoneSafe d = Safe image (stateAfter d s)
 
   accepted-safe : (command : Command′) (request : List ℕ) → mapGood image ≡ true → wholeArrays image (s .cells) marks ≡ true → known command ≡ true
       → ((k : ℕ) → testAt (ownTests command image request s) k ≡ false) → DoneSafe (accepted command image marks request s)
-  accepted-safe Clkc request good arrays k none = none-safe s
+  accepted-safe Clkc request good arrays k none = λ h. safe (clearing-occupied (s .context) h)
   accepted-safe Klod request good arrays k none = λ _. not-false _ (none 0)
-  accepted-safe Kunl request good arrays k none = λ h. safe (freed-held (s .context) _ h)
+  accepted-safe Kunl request good arrays k none =
+      λ _. safe (has-occupied (cacheOf (s .context)) (Tag (tagAt (requestFields Kunl) request)) (tag-occupies (tagAt (requestFields Kunl) request)) (not-false _ (none 0)))
   accepted-safe Fers request good arrays k none =
       rw (fers-orders (uncutOf image (s .cells) marks (partitionIn request) .told)) (run-safe (partitionIn request) never 0 good arrays (leb-false _ _ (none 0)) (none 2))
   accepted-safe Fsta request good arrays k none = safe
@@ -142,6 +149,12 @@ module _ (image marks : List ℕ) (s : State) (safe : Safe image s) where
   mailbox-safe code request response block =
       mailbox-elim image marks code request (length response) (length block) s DoneSafe (λ n _ _. safe) (accepted-safe (commandOf code) request)
 
+  -- a reply occupies none
+  reply-safe : (reply : EngineReply) → Safe image (after image marks (TakeReply reply) s)
+  reply-safe reply =
+      reply-elim reply (s .context) (λ (o : Outcome ReplyAnswer (List ℕ)). Safe image (withContext (o .after) s))
+      (λ _. safe) (λ _ h. safe (settled-occupied (kindAfter reply (cacheOf (s .context) .awaited)) (s .context) h))
+
 -- ---- every list of calls
 
 -- one call keeps the claim
@@ -150,6 +163,7 @@ call-safe image marks (Direct command) s safe = direct-safe image marks s safe c
 call-safe image marks (Erase i) s safe = erase-safe image marks s safe i never 0
 call-safe image marks (EraseCut i k mask) s safe = cut-safe image marks s safe i k mask
 call-safe image marks (Mailbox code request response block) s safe = mailbox-safe image marks s safe code request response block
+call-safe image marks (TakeReply reply) s safe = reply-safe image marks s safe reply
 call-safe image marks Restart s safe = none-safe image marks s safe s
 
 -- so does every list of calls
@@ -157,6 +171,7 @@ pub calls-safe : (image marks : List ℕ) (calls : List Call) (s : State) → Sa
 calls-safe image marks [] s safe = safe
 calls-safe image marks (call ∷ calls) s safe = calls-safe image marks calls (after image marks call s) (call-safe image marks call s safe)
 
--- from any state with no key held, with map and marks fixed: after every list of calls, a place is held only while the HEK is available
-pub held-only-while-available : (image marks : List ℕ) (start : State) → keyHeld start ≡ false → (calls : List Call) → Safe image (afterAll image marks calls start)
+-- from any state with every place empty, with map and marks fixed: after every list of calls, a place is not empty only while the HEK is
+-- available
+pub held-only-while-available : (image marks : List ℕ) (start : State) → occupied start ≡ false → (calls : List Call) → Safe image (afterAll image marks calls start)
 held-only-while-available image marks start none calls = calls-safe image marks calls start (λ h. absurd (false≢true (sym none ∙ h)))

@@ -3,7 +3,7 @@
 use Prim.Native.Nat.{ℕ, _%_, _≤_, _<_}
 use mathlib.Core.Path.{_≡_, refl, sym, ap, ap₂, _∙_}
 use mathlib.Core.Logic.{_⊎_, ⊎-elim}
-use mathlib.Core.Bool.{Bool, false}
+use mathlib.Core.Bool.{Bool}
 use mathlib.Core.List.{List}
 use native.Mathlib.Omega.{arith}
 use lib.ListN.{length, getD}
@@ -12,6 +12,7 @@ use Rattle.map.specs.Map.{headerOf, entryOf, endBefore, software}
 use Rattle.map.specs.Laws.{EntryRules, map-entry}
 use Rattle.fuse.specs.Fuse.{free}
 use Rattle.drive.specs.Drive.{Whole as WholeDrive, cellsOf}
+use Rattle.cache.specs.Cache.{cacheOf, AtRest}
 use Rattle.burns.specs.declared.End.{End}
 use Rattle.burns.specs.declared.End.the-variants.{Whole, Stopped, Cut as CutEnd}
 use Rattle.burns.specs.Run.{Tally, tallyOf, Ran, ran, run}
@@ -23,10 +24,10 @@ use Rattle.erasure.specs.Laws.{part-long}
 use Rattle.erasure.specs.Parts.{Outside, run-part, run-outside, run-length, same-array}
 use Rattle.erasure.specs.Cuts.{whole-by}
 use Rattle.history.specs.Refused.{refused-unchanged}
-use Rattle.history.specs.Calls.{keyHeld, Call, Told, told, refusal, after}
+use Rattle.history.specs.Calls.{Call, Told, told, refusal, after}
 use Rattle.history.specs.Demand3.{Attempt, Uncut, Alone, callAlone}
 use Rattle.history.specs.Forms.{as-lent, Quiet, Ready, whole-at, runFrom, Form, refuses, runs}
-use Rattle.history.specs.Attempts.{form, free-after}
+use Rattle.history.specs.Attempts.{form, rest-after}
 
 ran-is : (r q : Ran) → r .end ≡ q .end → r .tally .cells ≡ q .tally .cells → r .tally .burns ≡ q .tally .burns → r ≡ q
 ran-is r q e c b = ap₂ ran e (ap₂ tallyOf c b)
@@ -43,17 +44,17 @@ module _ (image marks : List ℕ) (i : ℕ) (cells : List ℕ) where
     pub safe : Safe (part marks) (part cells) (part (s .cells))
     pub still : (Ready image marks i cells → ⊥) → s .cells ≡ cells
 
-  pub reached-start : (start : State) → start .cells ≡ cells → keyHeld start ≡ false → Reached start
+  pub reached-start : (start : State) → start .cells ≡ cells → AtRest (cacheOf (start .context)) → Reached start
   reached-start start e h = record {
-    quiet = record { long = ap length e; free = h };
+    quiet = record { long = ap length e; rest = h };
     outside = λ j o. ap (λ (c : List ℕ). getD c j 0) e;
     safe = rw e (safe-start (part marks) (part cells));
     still = λ unready. e;
   }
 
-  pub reached-same : (s t : State) → Reached s → t .cells ≡ s .cells → keyHeld t ≡ false → Reached t
+  pub reached-same : (s t : State) → Reached s → t .cells ≡ s .cells → AtRest (cacheOf (t .context)) → Reached t
   reached-same s t r e h = record {
-    quiet = record { long = ap length e ∙ r .quiet .long; free = h };
+    quiet = record { long = ap length e ∙ r .quiet .long; rest = h };
     outside = λ j o. ap (λ (c : List ℕ). getD c j 0) e ∙ r .outside j o;
     safe = rw e (r .safe);
     still = λ unready. e ∙ r .still unready;
@@ -85,9 +86,9 @@ module _ (image marks : List ℕ) (i : ℕ) (cells : List ℕ) where
     part-after : (c : List ℕ) → WholeDrive image c → part (runOn image c marks i k mask .tally .cells) ≡ runPart c .tally .cells
     part-after c w = run-part image c marks i k mask w (ready .partition)
 
-    reached-run : (t : State) → t .cells ≡ runFrom image marks i cells k mask s .tally .cells → keyHeld t ≡ false → Reached t
+    reached-run : (t : State) → t .cells ≡ runFrom image marks i cells k mask s .tally .cells → AtRest (cacheOf (t .context)) → Reached t
     reached-run t e h = record {
-      quiet = record { long = ap length e ∙ run-length image (s .cells) marks i k mask here (ready .partition) ∙ r .quiet .long; free = h };
+      quiet = record { long = ap length e ∙ run-length image (s .cells) marks i k mask here (ready .partition) ∙ r .quiet .long; rest = h };
       outside = λ j o. ap (λ (c : List ℕ). getD c j 0) e ∙ run-outside image (s .cells) marks i k mask here (ready .partition) j o ∙ r .outside j o;
       safe = rw (e, part-after (s .cells) here) (safe-run (r .safe) four even software′ k mask);
       still = λ unready. absurd (unready ready);
@@ -122,12 +123,12 @@ module _ (image marks : List ℕ) (i : ℕ) (cells : List ℕ) where
     pub reached-attempt : Reached (after image marks call s)
     reached-attempt = by (form image marks i cells call s (r .quiet) a)
       where
-        free-now : keyHeld (after image marks call s) ≡ false
-        free-now = free-after image marks i call s a (r .quiet .free)
+        rest-now : AtRest (cacheOf (after image marks call s .context))
+        rest-now = rest-after image marks i call s a (r .quiet .rest)
 
         by : Form image marks i cells call → Reached (after image marks call s)
-        by (refuses t l o f) = reached-same s (after image marks call s) r (as-lent image marks call s (f s (r .quiet)) .1) free-now
-        by (runs k mask tell ready st c f) = reached-run ready k mask s r (after image marks call s) (as-lent image marks call s (f s (r .quiet)) .1) free-now
+        by (refuses t l o f) = reached-same s (after image marks call s) r (as-lent image marks call s (f s (r .quiet)) .1) rest-now
+        by (runs k mask tell ready st c f) = reached-run ready k mask s r (after image marks call s) (as-lent image marks call s (f s (r .quiet)) .1) rest-now
 
     -- full cells stay full
     pub filled-attempt : Filled (s .cells) → Filled (after image marks call s .cells)
@@ -161,12 +162,12 @@ module _ (image marks : List ℕ) (i : ℕ) (cells : List ℕ) where
 
     -- where it is uncut it answers as from the start, and, if it is a run, leaves the same
     module _ (u : Uncut image marks call s) (alone : Alone call) where
-      -- from the start, with any context that holds no key
+      -- from the start, with any context at rest
       abbrev start : State
       start = state cells (alone .context)
 
       start-quiet : Quiet cells start
-      start-quiet = record { long = refl; free = alone .none-held }
+      start-quiet = record { long = refl; rest = alone .at-rest }
 
       pub alone-answer : told image marks (callAlone call alone) start ≡ told image marks call s
       alone-answer = by (form image marks i cells call s (r .quiet) a)

@@ -11,7 +11,7 @@ use lib.Dec.{eqb}
 use borrow.Author.Tests.{ne-eqb, not-false, leb-false}
 use Rattle.laws.specs.Tests.{cond-keeps}
 use Rattle.laws.specs.Refusals.{first-elim, testAt, Applies, not-applies}
-use Rattle.context.specs.State.{State, withCells, Outcome, outcome, refusing}
+use Rattle.context.specs.State.{State, withCells, withContext, Outcome, outcome, refusing}
 use Rattle.map.specs.Map.{headerOf, mapGood}
 use Rattle.fuse.specs.Fuse.{short}
 use Rattle.burns.specs.declared.End.{End}
@@ -40,7 +40,11 @@ use Rattle.mailbox.specs.declared.Reply.the-variants.{Refused, Accepted}
 use Rattle.mailbox.specs.Laws.{is-refused, fers-or-plain}
 use Rattle.mailbox.specs.Told.{mailbox-elim}
 use Rattle.mailbox.specs.Mailbox.{fersOf, partitionIn, accepted, ownTests, doneOf, replyOf, stateAfter, responseAfter, blockAfter, Lent, mailboxOf}
-use Rattle.history.specs.Calls.{Call, Direct, Erase, EraseCut, Mailbox, Restart, Answering, Erasing, Replying, replying, told, refusal, after}
+use Rattle.engine.specs.declared.EngineReply.{EngineReply}
+use Rattle.reply.specs.declared.Answer.{Answer as ReplyAnswer}
+use Rattle.reply.specs.Reply.{takingOf}
+use Rattle.reply.specs.Laws.{reply-elim}
+use Rattle.history.specs.Calls.{Call, Direct, Erase, EraseCut, Mailbox, TakeReply, Restart, Answering, Erasing, Replying, Taking, replying, told, refusal, after}
 
 -- of a call that is refused: the state stays
 abbrev pub Unchanged : (image marks : List ℕ) → Call → State → Type 0
@@ -130,12 +134,21 @@ module _ (image marks : List ℕ) (s : State) where
   mailbox-stays code request room block =
       mailbox-elim image marks code request room block s Stays (λ n _ _ l. refl) (accepted-stays (commandOf code) request)
 
+  -- a refused reply of the engine leaves the state, and 15 is not its refusal
+  pub reply-stays : (reply : EngineReply) → let o = takingOf reply (s .context) in
+      1 ≤ refusal (Taking (o .told)) → (withContext (o .after) s ≡ s) × (refusal (Taking (o .told)) ≡ 15 → ⊥)
+  reply-stays reply =
+      reply-elim reply (s .context)
+      (λ (o : Outcome ReplyAnswer (List ℕ)). 1 ≤ refusal (Taking (o .told)) → (withContext (o .after) s ≡ s) × (refusal (Taking (o .told)) ≡ 15 → ⊥))
+      (λ _ l. (refl, λ e. omega arith)) (λ _ l. absurd (omega arith))
+
   -- so every call
   pub refused-unchanged : (call : Call) → Unchanged image marks call s
   refused-unchanged (Direct command) = λ l. direct-stays command l .0
   refused-unchanged (Erase i) = λ l. erase-stays i never 0 l .0
   refused-unchanged (EraseCut i k mask) = λ l. let both = erase-stays i k mask l in rw (both .1) (both .0)
   refused-unchanged (Mailbox code request response block) = mailbox-stays code request (length response) (length block)
+  refused-unchanged (TakeReply reply) = λ l. reply-stays reply l .0
   refused-unchanged Restart = λ l. absurd (omega arith)
 
 -- of the mailbox also response and block, whatever the refusal

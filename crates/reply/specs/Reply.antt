@@ -37,5 +37,5 @@ replyTests context =
     ∷ []
 
 -- the engine's reply
-unfoldable pub replyOf : EngineReply → (context : List ℕ) → Outcome Answer (List ℕ)
-replyOf reply context = firstOf (refusing Refused context) (replyTests context) (outcome Taken (replied reply context))
+unfoldable pub takingOf : EngineReply → (context : List ℕ) → Outcome Answer (List ℕ)
+takingOf reply context = firstOf (refusing Refused context) (replyTests context) (outcome Taken (replied reply context))

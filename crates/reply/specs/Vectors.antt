@@ -9,7 +9,7 @@ use Rattle.engine.specs.declared.EngineReply.{EngineReply}
 use Rattle.engine.specs.declared.EngineReply.the-variants.{Done, TimedOut, Failed}
 use Rattle.reply.specs.declared.Answer.{Answer}
 use Rattle.reply.specs.declared.Answer.the-variants.{Taken, Refused}
-use Rattle.reply.specs.Reply.{replyOf}
+use Rattle.reply.specs.Reply.{takingOf}
 
 -- place 0 held, place 1 of this kind, their tags 7 and 8 or none, and the awaited reply
 abbrev with : (kind tag awaited : ℕ) → List ℕ
@@ -17,7 +17,7 @@ with kind tag awaited = (1 ∷ kind ∷ replicate 14 0) ++ (7 ∷ tag ∷ replic
 
 -- done, timed out and failed, where place 1 waits for this reply
 abbrev each : (awaited : ℕ) → List (Outcome Answer (List ℕ))
-each awaited = map (λ (reply : EngineReply). replyOf reply (with 2 8 awaited)) (Done ∷ TimedOut ∷ Failed 5 ∷ [])
+each awaited = map (λ (reply : EngineReply). takingOf reply (with 2 8 awaited)) (Done ∷ TimedOut ∷ Failed 5 ∷ [])
 
 abbrev then : (kind tag : ℕ) → Outcome Answer (List ℕ)
 then kind tag = outcome Taken (with kind tag 0)
@@ -26,23 +26,23 @@ abbrev unsureNow : Outcome Answer (List ℕ)
 unsureNow = then 3 8
 
 load : each 2 ≡ then 1 8 ∷ unsureNow ∷ unsureNow ∷ []
-unfolding replyOf placed turnedBelow cacheOf isAt
+unfolding takingOf placed turnedBelow cacheOf isAt
 load = refl
 
 unload : each 3 ≡ then 0 0 ∷ unsureNow ∷ unsureNow ∷ []
-unfolding replyOf placed turnedBelow cacheOf isAt
+unfolding takingOf placed turnedBelow cacheOf isAt
 unload = refl
 
 clear : each 1 ≡ then 0 0 ∷ unsureNow ∷ unsureNow ∷ []
-unfolding replyOf placed turnedBelow cacheOf isAt
+unfolding takingOf placed turnedBelow cacheOf isAt
 clear = refl
 
 -- a number that we never write
 unknown : each 9 ≡ unsureNow ∷ unsureNow ∷ unsureNow ∷ []
-unfolding replyOf placed turnedBelow cacheOf isAt
+unfolding takingOf placed turnedBelow cacheOf isAt
 unknown = refl
 
 -- none is awaited, though a place waits
 refused : each 0 ≡ map (λ (reply : EngineReply). outcome (Refused 19) (with 2 8 0)) (Done ∷ TimedOut ∷ Failed 5 ∷ [])
-unfolding replyOf cacheOf
+unfolding takingOf cacheOf
 refused = refl

@@ -6,7 +6,7 @@ use context::Context;
 use engine::EngineReply;
 ghost use mathlib.Core.Path.{_≡_};
 ghost use Rattle.context.specs.State.{outcome};
-ghost use Rattle.reply.specs.Reply.{kindDone, kindAfter, replyOf};
+ghost use Rattle.reply.specs.Reply.{kindDone, kindAfter, takingOf};
 
 // That the reply was taken, or the refusal's number.
 pub enum Answer {
@@ -44,7 +44,7 @@ fn kind_after(reply: EngineReply, awaited: u64) -> u64
 
 // Takes the engine's reply to the order that awaits one: refusal 19 where none does.
 pub fn take_reply(context: &mut Context, reply: EngineReply) -> Answer
-    ensures { λ r. ⌜ outcome r (now (context .exit)) ≡ replyOf reply (now (context .entry)) ⌝ }
+    ensures { λ r. ⌜ outcome r (now (context .exit)) ≡ takingOf reply (now (context .entry)) ⌝ }
 {
     let awaited = cache::awaited(context);
     if awaited == cache::NO_REPLY {

@@ -28,7 +28,7 @@ ghost use Rattle.reason.specs.Reason.{reasonOf};
 ghost use Rattle.erasure.specs.Erasure.{erasureOf, cutErasureOf};
 ghost use Rattle.direct.specs.Direct.{directOf};
 ghost use Rattle.mailbox.specs.Mailbox.{lent, mailboxOf};
-ghost use Rattle.reply.specs.Reply.{replyOf};
+ghost use Rattle.reply.specs.Reply.{takingOf};
 ghost use Rattle.sciambrunola.specs.Numbers.{fieldsNumbers, writtenNumbers, listingNumbers, reasonNumbers};
 ghost use Rattle.sciambrunola.specs.Numbers.{placeNumbers, answerNumbers, erasureNumbers, replyNumbers, engineReply, takenNumber};
 
@@ -187,7 +187,7 @@ pub extern "C" fn sci_mailbox(
 // The engine's reply to the order that was given last, by its number, with the vendor's number.
 #[no_mangle]
 pub extern "C" fn sci_engine_reply(context: &mut Context, number: u32, vendor: u32) -> u32
-    ensures { λ r. ⌜ outcome r (now (context .exit)) ≡ telling takenNumber (replyOf (engineReply number vendor) (now (context .entry))) ⌝ }
+    ensures { λ r. ⌜ outcome r (now (context .exit)) ≡ telling takenNumber (takingOf (engineReply number vendor) (now (context .entry))) ⌝ }
 {
     replies::flat_taken(reply::take_reply(
         context,
