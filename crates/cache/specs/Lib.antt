@@ -1,3 +1,4 @@
+pub mod After
 pub mod Cache
 pub mod Laws
 pub mod Vectors

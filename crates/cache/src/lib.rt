@@ -32,8 +32,8 @@ pub const LOAD_REPLY: u64 = 2;
 
 pub const UNLOAD_REPLY: u64 = 3;
 
-// The words of the cache, from the kinds of the places on.
-const CACHE_WORDS: usize = context::AWAITED + 1;
+// The words of the places, kinds and tags: the awaited reply is behind them.
+const PLACES_WORDS: usize = context::AWAITED;
 
 // The places that a search is after: the empty ones, those that are not, those that wait, those that
 // are unsure, those that are not empty and have a tag.
@@ -219,9 +219,11 @@ fn empty_words(words: &mut [u64], count: usize)
     }
 }
 
-// Empties every place and drops an awaited reply.
+// Empties every place and drops an awaited reply. (A loop over one word more would be compiled to a call
+// of `memset`, and the archive needs no symbol of others.)
 pub fn clear(context: &mut Context)
     ensures { λ _. ⌜ now (context .exit) ≡ emptied (now (context .entry)) ⌝ }
 {
-    empty_words(context, CACHE_WORDS);
+    empty_words(context, PLACES_WORDS);
+    context[context::AWAITED] = NO_REPLY;
 }
