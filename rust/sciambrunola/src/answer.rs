@@ -40,7 +40,8 @@ pub enum Erasure {
         /// The burns carried out, one for each word.
         burns: u32,
     },
-    /// The power failed, and the key cache is empty. Erase again.
+    /// The power failed; every place of the key cache is empty, and no reply of the engine
+    /// is awaited. Erase again.
     Cut {
         /// The burns carried out, the one that was cut included.
         burns: u32,
@@ -55,11 +56,12 @@ pub enum Erasure {
     },
 }
 
-/// What the encryption engine is to do.
-#[must_use = "the engine has to be given the order"]
+/// What the encryption engine is to do. It is handed over with the engine block, and the
+/// engine's reply to [`engine_reply`](crate::engine_reply).
+#[must_use = "the engine has to be given the order, and its reply is awaited"]
 #[derive(Clone, Copy, Debug, PartialEq, Eq)]
 pub enum Order {
-    /// Nothing.
+    /// Nothing; no reply is awaited for it.
     None,
     /// Clear every key.
     Clear {
@@ -75,7 +77,7 @@ pub enum Order {
     },
     /// Unload the key whose tag is in the engine block.
     Unload {
-        /// The place of the cache that held its tag.
+        /// The place of the cache that has its tag.
         place: u32,
         /// The timeout that the request names.
         timeout: u32,

@@ -2,13 +2,13 @@
 
 /// The version of the header and of the archive: it grows by one whenever something
 /// changes for a caller (`docs/CHANGES.md`).
-pub const VERSION: u32 = 8;
+pub const VERSION: u32 = 9;
 /// The bytes of the engine block.
 pub const BLOCK_BYTES: usize = 128;
 /// The bytes of the shortest response buffer that is accepted.
 pub const LEAST_RESPONSE: usize = 20;
 /// The words of a [`Context`](crate::Context).
-pub const CONTEXT_WORDS: usize = 32;
+pub const CONTEXT_WORDS: usize = 33;
 /// The places of the key cache.
 pub const PLACES: usize = 16;
 /// The most partitions that a map has.
@@ -76,15 +76,15 @@ pub mod refusal {
     pub const FORBIDDEN: u32 = 8;
     /// WRITE would clear a fuse.
     pub const CLEARS_FUSE: u32 = 9;
-    /// Slot change while keys are held.
+    /// Slot change while a place of the key cache is not empty.
     pub const KEYS_HELD: u32 = 10;
     /// KLOD, HEK not available.
     pub const NO_HEK: u32 = 11;
-    /// KLOD, tag held already.
+    /// KLOD, a place that is not empty has the tag already.
     pub const TAG_HELD: u32 = 12;
     /// KLOD, no empty place.
     pub const NO_PLACE: u32 = 13;
-    /// KUNL, tag not held.
+    /// KUNL, no place that is not empty has the tag.
     pub const TAG_NOT_HELD: u32 = 14;
     /// The erasure's indicator has no set fuse after its burn: every fuse of it is
     /// stuck, and none was set before. The erasure stops before the data: the seed is
@@ -92,4 +92,11 @@ pub mod refusal {
     pub const INDICATOR_UNSET: u32 = 15;
     /// The map's text has not its form, or the buffer for the image is too short.
     pub const TEXT: u32 = 16;
+    /// A mailbox command other than FSTA while the engine's reply is awaited or a place
+    /// waits: hand in the reply first, by [`engine_reply`](crate::engine_reply).
+    pub const AWAITING: u32 = 17;
+    /// KLOD or KUNL while a place is unsure: CLKC, answered done, empties it.
+    pub const UNSURE: u32 = 18;
+    /// A reply of the engine, and none is awaited.
+    pub const NOT_AWAITED: u32 = 19;
 }

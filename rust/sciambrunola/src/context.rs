@@ -3,8 +3,9 @@
 use crate::constants::CONTEXT_WORDS;
 use crate::raw;
 
-/// All that the key block keeps between calls, the key cache with its
-/// [`PLACES`](crate::PLACES) places among it. A new one has every place empty.
+/// All that the key block keeps between calls: the key cache with its
+/// [`PLACES`](crate::PLACES) places, and whether the engine's reply is awaited. A new one
+/// has every place empty, and no reply is awaited.
 ///
 /// Keep one for each drive, and lend it to every call on it.
 #[repr(C)]
@@ -14,19 +15,35 @@ pub struct Context {
     words: [u64; CONTEXT_WORDS],
 }
 
+/// What a place of the key cache has (document 02, P5): where it is not empty, a tag.
+#[must_use]
+#[derive(Clone, Copy, Debug, PartialEq, Eq)]
+pub enum Place {
+    /// Nothing, and nothing of a tag that was there.
+    Empty,
+    /// The tag of an order to which the engine's reply is awaited: a load of it, an unload
+    /// of it, or a clear.
+    Waiting(u64),
+    /// A tag whose key the engine has: it replied done to the load.
+    Held(u64),
+    /// A tag whose key the engine may have or not: it timed out or failed. KLOD and KUNL
+    /// are refused (18) until CLKC, answered done, has emptied the place.
+    Unsure(u64),
+}
+
 impl Context {
-    /// The context before the first call: nothing is held.
+    /// The context before the first call: every place is empty, and no reply is awaited.
     #[must_use]
     pub const fn new() -> Context {
         Context { words: [0; CONTEXT_WORDS] }
     }
 
-    /// The tag that a place of the key cache holds. None if it is empty, or if there
-    /// is no such place.
-    #[must_use]
-    pub fn place(&self, i: usize) -> Option<u64> {
-        let place = raw::cache_place(self, u32::try_from(i).ok()?);
-        (place.kind != raw::PLACE_EMPTY).then_some(place.tag)
+    /// What a place of the key cache has. Empty too if there is no such place.
+    pub fn place(&self, i: usize) -> Place {
+        match u32::try_from(i) {
+            Ok(number) => Place::from_raw(raw::cache_place(self, number)),
+            Err(_) => Place::Empty,
+        }
     }
 
     /// For this repository's tests, which need contexts that no calls leave.
@@ -39,5 +56,16 @@ impl Context {
 impl Default for Context {
     fn default() -> Context {
         Context::new()
+    }
+}
+
+impl Place {
+    fn from_raw(place: raw::Place) -> Place {
+        match place.kind {
+            raw::PLACE_EMPTY => Place::Empty,
+            raw::PLACE_HELD => Place::Held(place.tag),
+            raw::PLACE_WAITING => Place::Waiting(place.tag),
+            _ => Place::Unsure(place.tag),
+        }
     }
 }

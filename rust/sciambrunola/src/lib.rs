@@ -1,6 +1,7 @@
 //! The proved key block of a drive controller: the map of its fuses, read and
 //! written, the states of its partitions, why it offers no key, direct commands on
-//! its fuses, the erasure of a partition, the key cache of 16 places, and the mailbox.
+//! its fuses, the erasure of a partition, the key cache of 16 places, the mailbox, and
+//! the engine's reply to its orders.
 //!
 //! Every function answers for any bytes and any lengths, and a refusal changes
 //! nothing that is lent. The refusal numbers (see [`refusal`]), the fields of the
@@ -23,6 +24,7 @@
 mod answer;
 mod constants;
 mod context;
+mod engine;
 mod fields;
 #[allow(unsafe_code)]
 mod raw;
@@ -33,7 +35,8 @@ pub use answer::{Answer, Erasure, Order, Reply};
 pub use constants::{code, flag, kind, refusal};
 pub use constants::{BLOCK_BYTES, CONTEXT_WORDS, LEAST_RESPONSE, PARTITIONS, PLACES};
 pub use constants::{LONGEST_IMAGE, NO_CELL, NO_SLOT, VERSION};
-pub use context::Context;
+pub use context::{Context, Place};
+pub use engine::EngineReply;
 pub use fields::Fields;
 pub use reason::Reason;
 pub use states::{Listing, State, States};
@@ -147,7 +150,8 @@ pub fn erase(
 
 /// The same erasure where the power fails at burn `k`, counted from 0: that burn
 /// has `mask` in place of all ones, of which a 32-bit word takes the low 32
-/// bits, nothing follows, and the key cache is emptied.
+/// bits, nothing follows, every place of the key cache is emptied, and an awaited reply
+/// of the engine is dropped.
 ///
 /// Where the erasure ends before burn `k`, or is refused, it is [`erase`], and
 /// the context stays as it is.
@@ -165,8 +169,8 @@ pub fn erase_cut(
     Erasure::from_raw(raw::erase_cut(drive, partition, k, mask))
 }
 
-/// For when the drive has restarted, and the engine with it: empties the key
-/// cache, and changes nothing else.
+/// For when the drive has restarted, and the engine with it: empties every place of the
+/// key cache and drops an awaited reply of the engine, and changes nothing else.
 ///
 /// No order is given to the engine. To free a slot in operation use KUNL or CLKC.
 pub fn restart(context: &mut Context) {
@@ -182,6 +186,10 @@ pub fn restart(context: &mut Context) {
 /// nothing at all on refusal. FERS that is accepted has erased the partition
 /// exactly if the response's short pairs are 0 or its first short cell is the indicator's
 /// (see [`Erasure::Ended`]).
+///
+/// KLOD, KUNL and CLKC have an order. Hand it to the engine with the block, and the
+/// engine's reply to [`engine_reply`]. Until then the place of the key waits, for CLKC
+/// every place that is not empty, and every command but FSTA is refused (17).
 #[allow(clippy::too_many_arguments)]
 #[inline]
 pub fn mailbox(
@@ -197,4 +205,23 @@ pub fn mailbox(
     let drive = raw::Drive { image, cells, marks, context };
     let buffers = raw::Buffers { request, response, block };
     Reply::from_raw(raw::mailbox(drive, code, buffers))
+}
+
+/// Takes the engine's reply to the order that [`mailbox`] gave last. Only the context
+/// changes: no reply is awaited any more, and the places that waited are
+/// - held, where the engine is done with a load;
+/// - empty, where it is done with an unload or a clear;
+/// - unsure, where it timed out or failed. Then KLOD and KUNL are refused (18) until CLKC,
+///   answered done, has emptied them.
+///
+/// The error is the refusal's number, 19 ([`refusal::NOT_AWAITED`]): no reply is awaited,
+/// and nothing has changed. A reply carries no number of its order: that a late one is not
+/// taken for the reply to the next order is the caller's to see to.
+#[inline]
+pub fn engine_reply(context: &mut Context, reply: EngineReply) -> Result<(), u32> {
+    let (reply, vendor) = reply.to_raw();
+    match raw::engine_reply(context, reply, vendor) {
+        0 => Ok(()),
+        refusal => Err(refusal),
+    }
 }

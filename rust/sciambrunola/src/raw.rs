@@ -98,6 +98,8 @@ extern "C" {
     fn sci_cache_place(context: *const Context, place: u32) -> Place;
 
     fn sci_restart(context: *mut Context);
+
+    fn sci_engine_reply(context: *mut Context, reply: u32, vendor: u32) -> u32;
 }
 
 /// Calls a function of the archive with the parts of a drive, each pointer
@@ -197,6 +199,12 @@ pub(crate) fn erase_cut(drive: Drive, partition: u32, k: u32, mask: u64) -> Eras
 pub(crate) fn restart(context: &mut Context) {
     // SAFETY: the pointer is that of a mutable borrow.
     unsafe { sci_restart(context) }
+}
+
+#[inline]
+pub(crate) fn engine_reply(context: &mut Context, reply: u32, vendor: u32) -> u32 {
+    // SAFETY: the pointer is that of a mutable borrow.
+    unsafe { sci_engine_reply(context, reply, vendor) }
 }
 
 #[inline]

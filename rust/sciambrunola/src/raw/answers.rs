@@ -1,5 +1,5 @@
-//! The structs that the archive answers with, as `include/sciambrunola.h` declares them, and
-//! the numbers of their kinds.
+//! The structs that the archive answers with, as `include/sciambrunola.h` declares them, the
+//! numbers of their kinds, and those of the engine's reply.
 
 pub(crate) const STATE_ERASED: u32 = 0;
 pub(crate) const STATE_TORN: u32 = 1;
@@ -19,10 +19,16 @@ pub(crate) const ENDED: u32 = 0;
 pub(crate) const CUT: u32 = 1;
 
 pub(crate) const PLACE_EMPTY: u32 = 0;
+pub(crate) const PLACE_HELD: u32 = 1;
+pub(crate) const PLACE_WAITING: u32 = 2;
 
 pub(crate) const CLEAR: u32 = 1;
 pub(crate) const LOAD: u32 = 2;
 pub(crate) const UNLOAD: u32 = 3;
+
+pub(crate) const ENGINE_DONE: u32 = 1;
+pub(crate) const ENGINE_TIMED_OUT: u32 = 2;
+pub(crate) const ENGINE_FAILED: u32 = 3;
 
 /// `sci_fields`
 #[repr(C)]
