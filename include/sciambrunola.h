@@ -1,13 +1,13 @@
 /*
  * The proved key block of a drive controller: the map of its fuses, read and
  * written, the states of its partitions, why it offers no key, direct commands on
- * its fuses, the erasure of a partition, the key cache of 16 places, and the
- * mailbox. Link libsciambrunola.a: it is built for x86-64 Linux (System V calling
- * convention), position-independent, with no heap, no C library and no undefined
- * symbol. Call it from ordinary threads and not from an interrupt handler: it
- * uses the red zone below the stack pointer and the SSE registers. It has no
- * unwind tables, so no exception and no cancellation may pass through a call of
- * it, and a backtrace ends there.
+ * its fuses, the erasure of a partition, the key cache of 16 places, the mailbox,
+ * and the engine's reply to its orders. Link libsciambrunola.a: it is built for
+ * x86-64 Linux (System V calling convention), position-independent, with no heap, no
+ * C library and no undefined symbol. Call it from ordinary threads and not from an
+ * interrupt handler: it uses the red zone below the stack pointer and the SSE
+ * registers. It has no unwind tables, so no exception and no cancellation may pass
+ * through a call of it, and a backtrace ends there.
  *
  * Any bytes, texts, cells, marks, contexts, requests and lengths get an answer,
  * and every call ends. What the caller must see to, and all of it:
@@ -24,8 +24,8 @@
  * and all that is kept between calls is the caller's.
  *
  * What is lent to every function, save that sci_partition gets the image only,
- * sci_write_map a text and a buffer for the image, sci_restart and sci_cache_place
- * the context only, and sci_states and sci_why no context:
+ * sci_write_map a text and a buffer for the image, sci_engine_reply, sci_restart and
+ * sci_cache_place the context only, and sci_states and sci_why no context:
  *   image, image_bytes  the map of the fuses, as below; only read, but for
  *                       sci_write_map, which writes it
  *   cells, cell_count   the fuse cells, 32 fuses each; written by sci_write,
@@ -37,15 +37,16 @@
  *                       bit is set here will not burn; if it is set, it stays
  *                       so. Only read
  *   context             what the key block keeps from call to call: the key
- *                       cache, SCI_PLACES places, each empty or holding a 64-bit
- *                       tag; one that is emptied keeps nothing of its tag. Have
- *                       one sci_context for each drive, all zeros before its
+ *                       cache, SCI_PLACES places, each empty or with a 64-bit
+ *                       tag, and whether the engine's reply is awaited, as below.
+ *                       Have one sci_context for each drive, all zeros before its
  *                       first call (sci_context context = {0};), which is an
- *                       empty cache, and keep it between calls. Do not change or
- *                       interpret its words: later releases may add to them and
- *                       lay them out otherwise, so compile with the header of
- *                       the archive that you link. sci_cache_place tells what a
- *                       place holds. Changed by sci_mailbox, sci_erase_cut and
+ *                       empty cache and no reply awaited, and keep it between
+ *                       calls. Do not change or interpret its words: later
+ *                       releases may add to them and lay them out otherwise, so
+ *                       compile with the header of the archive that you link.
+ *                       sci_cache_place tells what a place has. Changed by
+ *                       sci_mailbox, sci_engine_reply, sci_erase_cut and
  *                       sci_restart alone. sci_read, sci_write, sci_zeroize and
  *                       sci_erase leave it as it was, though the pointer is not
  *                       const there either
@@ -78,10 +79,48 @@
  * The active slot is the first slot in map order that is not erased. The HEK is
  * available when there is an active slot and it is programmed.
  *
- * Refusal numbers, each with the rest of its name behind SCI_REFUSAL_. They are
- * checked in ascending order and the lowest that applies is answered; sci_write_map
- * alone checks 16 first, then 1. A refused call leaves everything that is lent as
- * it was.
+ * The key cache and the engine. CLKC, KLOD and KUNL have an order for the encryption
+ * engine, and the engine's reply to it is awaited until the drive hands it in; also the
+ * reply to a CLKC of an empty cache. A place of the cache is
+ *   empty    and nothing is kept of a tag that it had
+ *   waiting  from an order that names its tag, a load or an unload of it or a clear,
+ *            until the reply
+ *   held     after done to the load of its tag: the engine has the key
+ *   unsure   after any other reply: the engine may have the key, or not
+ * So the drive does this with every command that it hands to sci_mailbox:
+ *   1. Where the answer has an order, hand it to the engine, with the block, and
+ *      start a timer with the order's timeout.
+ *   2. Take the engine's reply: done, or failed with a number of its vendor. If the
+ *      timer runs out first, the reply is timed out; an engine that never answers is
+ *      told by that timer alone, the key block has none.
+ *   3. Hand the reply in by sci_engine_reply.
+ * In C, where run_engine is the drive's own and answers a SCI_ENGINE_ number:
+ *   reply = sci_mailbox(..., &context, code, request, ..., block, sizeof block);
+ *   if (reply.refusal == 0 && reply.order != SCI_ORDER_NONE) {
+ *       uint32_t vendor = 0, said = run_engine(&reply, block, &vendor);
+ *       refusal = sci_engine_reply(&context, said, vendor);
+ *   }
+ * Until the reply has come every mailbox command but FSTA is refused with 17, so that
+ * one order at most is open. The response tells that the order was given, and not that
+ * the engine carried it out: the reply tells that.
+ * To recover: after a reply that was not done the places that waited are unsure, and
+ * KLOD and KUNL are refused with 18. CLKC is not. Give its order to the engine; done to
+ * it empties every place, and after any other reply they are unsure again, and CLKC can
+ * be asked for again. Or restart the drive, and the engine with it: sci_restart.
+ * A late reply, to an order that the drive has already handed in as timed out, is
+ * refused with 19 if no reply is awaited; but if another order is open by then, it would
+ * be taken for that order's. A reply carries nothing by which the key block could tell:
+ * the drive must match replies to orders, and drop a late one.
+ * Warning: never hand in as done what was not the engine's own done to this order. A
+ * place would be told as held whose key the engine has not, or, worse, as empty whose
+ * key it still has, and the slot could then be erased under it.
+ *
+ * Refusal numbers, each with the rest of its name behind SCI_REFUSAL_. A call checks
+ * those that its own text names, in ascending order, and answers the first that
+ * applies. Two calls have another order: sci_write_map checks 16, then 1; sci_mailbox
+ * checks 1 to 14 ascending, then 17, then 18, and 15 last, since FERS's run gives it,
+ * before which no fuse has burned. A refused call leaves everything that is lent as it
+ * was.
  *       SCI_REFUSAL_
  *    1  MAP              the map breaks a rule above
  *    2  LENGTHS          cells or marks are not as many as the map says; for the
@@ -94,7 +133,9 @@
  *    7  NOT_FOUND        no such partition, or the cell starts no word
  *    8  FORBIDDEN        the command may not touch it
  *    9  CLEARS_FUSE      WRITE would clear a fuse
- *   10  KEYS_HELD        slot change while keys are held
+ *   10  KEYS_HELD        slot change while keys are held: a place of the cache is not
+ *                        empty. In 10, 12, 13 and 14 waiting and unsure places count
+ *                        as held
  *   11  NO_HEK           KLOD, HEK not available
  *   12  TAG_HELD         KLOD, tag held already
  *   13  NO_PLACE         KLOD, no empty place
@@ -105,6 +146,10 @@
  *                        and asking again gives 15 again
  *   16  TEXT             the map's text has not its form, or the buffer for the
  *                        image is too short
+ *   17  AWAITING         a mailbox command other than FSTA while a reply of the engine
+ *                        is awaited or a place waits: hand in the reply first
+ *   18  UNSURE           KLOD or KUNL while a place is unsure: CLKC first
+ *   19  NOT_AWAITED      a reply of the engine, and none is awaited
  */
 #ifndef SCIAMBRUNOLA_H
 #define SCIAMBRUNOLA_H
@@ -118,7 +163,7 @@ extern "C" {
 
 /* The version of this header and of the archive that goes with it: it grows by one
  * whenever something changes for a caller. docs/CHANGES.md says what. */
-#define SCI_VERSION 8
+#define SCI_VERSION 9
 
 /* Of a function whose answer has to be looked at: a warning where it is not, if the
  * compiler has one. An erasure that ended is not yet an erased partition. */
@@ -131,7 +176,7 @@ extern "C" {
 /* Places of the key cache. */
 #define SCI_PLACES 16
 /* Words of a sci_context. */
-#define SCI_CONTEXT_WORDS 32
+#define SCI_CONTEXT_WORDS 33
 /* Bytes of the engine block: MEK at 00h, METD at 40h, AUX at 60h. */
 #define SCI_BLOCK_BYTES 128
 /* The shortest response buffer that is accepted. */
@@ -168,6 +213,9 @@ extern "C" {
 #define SCI_REFUSAL_TAG_NOT_HELD 14
 #define SCI_REFUSAL_INDICATOR_UNSET 15
 #define SCI_REFUSAL_TEXT 16
+#define SCI_REFUSAL_AWAITING 17
+#define SCI_REFUSAL_UNSURE 18
+#define SCI_REFUSAL_NOT_AWAITED 19
 
 /* states[i] of sci_states */
 #define SCI_STATE_ERASED 0
@@ -186,6 +234,8 @@ extern "C" {
 /* sci_place.kind */
 #define SCI_PLACE_EMPTY 0
 #define SCI_PLACE_HELD 1
+#define SCI_PLACE_WAITING 2
+#define SCI_PLACE_UNSURE 3
 
 /* sci_answer.kind. Why a command was refused is in sci_answer.refusal. */
 #define SCI_WORD 0
@@ -210,6 +260,12 @@ extern "C" {
 #define SCI_ORDER_CLEAR 1
 #define SCI_ORDER_LOAD 2
 #define SCI_ORDER_UNLOAD 3
+
+/* reply of sci_engine_reply. Any other number counts as failed, 0 among them, so that
+ * zeroed memory is not taken for done. */
+#define SCI_ENGINE_DONE 1
+#define SCI_ENGINE_TIMED_OUT 2
+#define SCI_ENGINE_FAILED 3
 
 /* Codes of the mailbox commands. */
 #define SCI_CLKC UINT32_C(0x434C4B43)
@@ -264,8 +320,8 @@ typedef struct {
 
 /* What sci_cache_place answers. */
 typedef struct {
-    uint32_t kind; /* SCI_PLACE_EMPTY or SCI_PLACE_HELD */
-    uint64_t tag;  /* the tag that the place holds, 0 where it is empty */
+    uint32_t kind; /* SCI_PLACE_EMPTY, _WAITING, _HELD or _UNSURE */
+    uint64_t tag;  /* the place's tag, 0 where it is empty */
 } sci_place;
 
 /* What a direct command answers. */
@@ -297,7 +353,8 @@ typedef struct {
 typedef struct {
     uint32_t refusal; /* the refusal's number, 0 where the command was carried out */
     uint32_t length;  /* bytes of the response, 0 on refusal */
-    uint32_t order;   /* for the engine: SCI_ORDER_NONE, _CLEAR, _LOAD or _UNLOAD */
+    uint32_t order;   /* for the engine: SCI_ORDER_NONE, _CLEAR, _LOAD or _UNLOAD; its
+                         reply is awaited unless there is none */
     uint32_t place;   /* of a load or unload, else 0 */
     uint32_t timeout; /* of a clear, load or unload, else 0 */
 } sci_reply;
@@ -371,9 +428,11 @@ sci_reason sci_why(const uint8_t *image, size_t image_bytes,
                    const uint32_t *marks, size_t mark_count);
 
 /*
- * What the key cache has in the place of this number, 0 to SCI_PLACES - 1. There
- * is no place past these, nothing is held there, and it is told as an empty one.
- * Changes nothing. It cannot be refused.
+ * What the key cache has in the place of this number, 0 to SCI_PLACES - 1: whether it
+ * is empty, waiting, held or unsure, and its tag. There is no place past these, and it
+ * is told as an empty one. In a context that no calls left, a place with words of none
+ * of these kinds is told as unsure, and counts as one. Changes nothing. It cannot be
+ * refused.
  */
 SCI_ANSWER
 sci_place sci_cache_place(const sci_context *context, uint32_t place);
@@ -395,8 +454,9 @@ sci_answer sci_read(const uint8_t *image, size_t image_bytes,
  * then stands, or done in a secret partition.
  * Refused: 1, 2, 7; 8 for digest, indicator, life cycle, a marked partition, a
  * value over 32 bits for a 32-bit word; 9 where the value lacks a set fuse; 10.
- * With a key held, 9 or 10 tells whether the value lacks a set fuse of a word of
- * a slot: who may WRITE to a slot can find its fuses, though no word is shown.
+ * While a place of the cache is not empty, 9 or 10 tells whether the value lacks a set
+ * fuse of a word of a slot: who may WRITE to a slot can find its fuses, though no word
+ * is shown.
  */
 SCI_ANSWER
 sci_answer sci_write(const uint8_t *image, size_t image_bytes,
@@ -426,10 +486,11 @@ sci_answer sci_zeroize(const uint8_t *image, size_t image_bytes,
  * The partition is erased exactly if short_pairs is 0 or first_short is its
  * indicator's cell; otherwise it is torn, and its seed may still be there.
  * Asked for again, after a cut too, it begins at the indicator. It answers as
- * the first time, or as it would have if that one was cut, where no key is held
- * either time, the image and the marks are the same, and since then no other
- * call or writer has changed the cells: only this one, sci_erase_cut and FERS,
- * each of this partition. The context stays as it was.
+ * the first time, or as it would have if that one was cut, where every place of
+ * the cache is empty both times, the image and the marks are the same, and since
+ * then no other call or writer has changed the cells: only this one,
+ * sci_erase_cut and FERS, each of this partition. An awaited reply of the engine
+ * does not stop it. The context stays as it was.
  * Refused: 1, 2; 7 if there is no such partition; 8 if it is not zeroizable;
  * 10; 15.
  */
@@ -443,8 +504,8 @@ sci_erasure sci_erase(const uint8_t *image, size_t image_bytes,
  * The erasure of sci_erase, cut by a power failure at burn k, counted from 0:
  * the burns before it are whole, burn k has the mask in place of all ones (its
  * low half for the first cell of a pair; its low 32 bits for a 32-bit word), and
- * nothing follows. Then every place of the cache is empty. Answers SCI_CUT and
- * k + 1 burns.
+ * nothing follows. Then every place of the cache is empty, and a reply that was
+ * awaited is so no longer. Answers SCI_CUT and k + 1 burns.
  * If the erasure would end before burn k, at the end of its order or with 15,
  * it is sci_erase: the answer and the cells are the same, and the context stays
  * as it was.
@@ -459,11 +520,28 @@ sci_erasure sci_erase_cut(const uint8_t *image, size_t image_bytes,
 
 /*
  * Call it when the drive has restarted, and the engine with it. Empties every
- * place of the cache, and changes nothing else. It cannot be refused.
+ * place of the cache, drops an awaited reply of the engine, and changes nothing
+ * else. It cannot be refused.
  * No order is given to the engine, which would keep its keys if it had not
  * restarted: to free a slot in operation use KUNL or CLKC.
  */
 void sci_restart(sci_context *context);
+
+/*
+ * The engine's reply to the order that sci_mailbox answered last: SCI_ENGINE_DONE,
+ * _TIMED_OUT or _FAILED; any other number counts as failed. vendor is the number that
+ * the engine failed with, or any other where it did not; it is not looked at and not
+ * kept. Then no reply is awaited, and every place that waited is
+ *   held    if the engine is done with a load
+ *   empty   if it is done with an unload or a clear
+ *   unsure  if it timed out or failed; the place keeps its tag
+ * All other places stay as they were. What done means, and what a late reply does, is
+ * said above.
+ * Answers 0 where the reply was taken, else the refusal's number.
+ * Refused: 19 where no reply is awaited.
+ */
+SCI_ANSWER
+uint32_t sci_engine_reply(sci_context *context, uint32_t reply, uint32_t vendor);
 
 /*
  * A mailbox command. Fields are little-endian u32, but for the 64 MEK bytes.
@@ -489,11 +567,14 @@ void sci_restart(sci_context *context);
  * every request byte after chksum, in 32 bits; a response's is the same
  * without the code. fips_status and reserved are 0.
  *
- * CLKC empties the cache; the engine is to clear, and the block is all zero.
- * KLOD puts the tag into the lowest empty place; the engine is to load, and the
- * block has the MEK, the tag in the first 8 bytes of METD, and zeros.
- * KUNL frees the lowest place that holds the tag; the engine is to unload, and
- * the block is as for a load with the MEK zero.
+ * CLKC has every place wait that is not empty; the engine is to clear, and the block
+ * is all zero.
+ * KLOD puts the tag into the lowest empty place, which waits; the engine is to load,
+ * and the block has the MEK, the tag in the first 8 bytes of METD, and zeros.
+ * KUNL has the lowest place wait that has the tag; the engine is to unload, and the
+ * block is as for a load with the MEK zero.
+ * A place that waits keeps its tag. None is held, and none is emptied, before the
+ * engine's reply is handed in by sci_engine_reply.
  * FERS is sci_erase of the partition that it names: it is erased exactly if the
  * response's short pairs are 0 or its first short cell is the indicator's;
  * otherwise it is torn, and its seed may still be there. The block and the context
@@ -502,10 +583,12 @@ void sci_restart(sci_context *context);
  *
  * The response buffer has SCI_LEAST_RESPONSE bytes or more, the block has
  * SCI_BLOCK_BYTES: the engine's registers from 00h on, without CTRL at 80h. Where
- * there is an order, the caller hands it to the engine with the block.
+ * there is an order, the caller hands it to the engine with the block, and the
+ * engine's reply to sci_engine_reply.
  * No command but FERS changes a cell. Response bytes past the response keep
  * their values.
- * Refused: 1 to 6; FERS also 7, 8, 10, 15; KLOD also 11, 12, 13; KUNL also 14.
+ * Refused, in this order: 1 to 6; 7, 8, 10 (FERS); 11, 12, 13 (KLOD); 14 (KUNL); 17
+ * (all but FSTA); 18 (KLOD, KUNL); 15 (FERS).
  */
 SCI_ANSWER
 sci_reply sci_mailbox(const uint8_t *image, size_t image_bytes,

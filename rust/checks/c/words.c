@@ -1,7 +1,7 @@
 /* Document 01, "The small drive", from C: the direct commands, which the example does not
- * show, and every field of their answers, of a place, a reply, an erasure that is refused and
- * one that ends with a short indicator and, by document 02, P1 and P2, of reasons and of maps
- * that are written. */
+ * show, and every field of their answers, of a mailbox's reply, an erasure that is refused and
+ * one that ends with a short indicator and, by document 02, P1, P2 and P5, of reasons, of maps
+ * that are written, and of a place after each reply of the engine. */
 #include "sciambrunola.h"
 
 #include <inttypes.h>
@@ -50,6 +50,50 @@ static void print_reason(const char *name, const uint32_t *these, size_t count)
            reason.cell, reason.ones);
 }
 
+static void print_place(void)
+{
+    sci_place place = sci_cache_place(&context, 0);
+    printf("; place 0: kind %" PRIu32 ", tag %" PRIX64 "\n", place.kind, place.tag);
+}
+
+static void print_mail(const char *name, uint32_t code, const uint8_t *request, size_t bytes)
+{
+    uint8_t response[SCI_LEAST_RESPONSE], block[SCI_BLOCK_BYTES];
+    sci_reply reply = sci_mailbox(DRIVE, code, request, bytes, response, sizeof response, block,
+                                  sizeof block);
+    printf("%s: refusal %" PRIu32 ", length %" PRIu32 ", order %" PRIu32 ", place %" PRIu32
+           ", timeout %" PRIu32, name, reply.refusal, reply.length, reply.order, reply.place,
+           reply.timeout);
+    print_place();
+}
+
+static void print_reply(uint32_t reply)
+{
+    printf("reply %" PRIu32 ": refusal %" PRIu32, reply, sci_engine_reply(&context, reply, 7));
+    print_place();
+}
+
+/* A key is loaded; then the cache is cleared, with each of these replies. */
+static void print_keys(void)
+{
+    static const uint8_t klod[84] = {
+        0xBC, 0xFE, 0xFF, 0xFF, [8] = 6, [12] = 5, [16] = 7, [20] = 8
+    };
+    static const uint8_t clkc[12] = {0xF8, 0xFD, 0xFF, 0xFF, [8] = 0xE8, [9] = 3};
+    static const uint32_t replies[] = {
+        SCI_ENGINE_TIMED_OUT, SCI_ENGINE_FAILED, 0, 4, 0xFFFFFFFF, SCI_ENGINE_DONE
+    };
+    size_t i;
+    print_mail("KLOD", SCI_KLOD, klod, sizeof klod);
+    print_mail("KLOD", SCI_KLOD, klod, sizeof klod);
+    print_reply(SCI_ENGINE_DONE);
+    print_reply(SCI_ENGINE_DONE);
+    for (i = 0; i < sizeof replies / sizeof replies[0]; i++) {
+        print_mail("CLKC", SCI_CLKC, clkc, sizeof clkc);
+        print_reply(replies[i]);
+    }
+}
+
 /* The map of a text, with this room; the byte behind it must stay. */
 static void print_map(const char *text, size_t room)
 {
@@ -67,11 +111,6 @@ static void print_map(const char *text, size_t room)
 
 int main(void)
 {
-    const uint8_t klod[84] = {0xBC, 0xFE, 0xFF, 0xFF, [8] = 6, [12] = 5, [16] = 7, [20] = 8};
-    uint8_t response[SCI_LEAST_RESPONSE], block[SCI_BLOCK_BYTES];
-    sci_reply reply;
-    sci_place place;
-    int i;
     print_answer("READ 0", sci_read(DRIVE, 0));
     print_answer("WRITE 7", sci_write(DRIVE, 7, 0x89));
     print_answer("READ 7", sci_read(DRIVE, 7));
@@ -80,15 +119,7 @@ int main(void)
     print_answer("ZEROIZE 6", sci_zeroize(DRIVE, 6));
     print_erasure(sci_erase(DRIVE, 0));
     print_erasure(sci_erase(WEAK, 0));
-    for (i = 0; i < 2; i++) {
-        reply = sci_mailbox(DRIVE, SCI_KLOD, klod, sizeof klod, response, sizeof response, block,
-                            sizeof block);
-        printf("KLOD: refusal %" PRIu32 ", length %" PRIu32 ", order %" PRIu32 ", place %" PRIu32
-               ", timeout %" PRIu32 "\n", reply.refusal, reply.length, reply.order, reply.place,
-               reply.timeout);
-    }
-    place = sci_cache_place(&context, 0);
-    printf("place 0: kind %" PRIu32 ", tag %" PRIX64 "\n", place.kind, place.tag);
+    print_keys();
     print_reason("why", cells, CELLS);
     print_reason("why, torn", torn, CELLS);
     print_reason("why, a cell too few", torn, CELLS - 1);

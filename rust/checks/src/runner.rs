@@ -86,14 +86,14 @@ fn read_all(stream: &mut Option<impl Read>) -> Vec<u8> {
     bytes
 }
 
-/// Compiles a C program of the repository, with every warning an error, and links
-/// it with the archive. Gives its path in that directory.
-pub fn compiled(source: &str, directory: &Path) -> PathBuf {
-    let program = directory.join(source.replace(['/', '.'], "_"));
+/// Compiles a C program of the repository from its sources, with every warning an error, and
+/// links it with the archive. Gives its path in that directory, named after the sources.
+pub fn compiled(sources: &[&str], directory: &Path) -> PathBuf {
+    let program = directory.join(sources.join("_").replace(['/', '.'], "_"));
     let mut compiler = Command::new("cc");
     compiler.args(["-std=c99", "-Wall", "-Wextra", "-Wpedantic", "-Werror", "-I"]);
-    compiler.args([in_repository("include"), in_repository(source), archive(), "-o".into()]);
-    printed(compiler.arg(&program));
+    compiler.arg(in_repository("include")).args(sources.iter().map(|source| in_repository(source)));
+    printed(compiler.arg(archive()).arg("-o").arg(&program));
     program
 }
 

@@ -3,10 +3,12 @@
 //! the slot is still programmed and its HEK available. On another drive, with the mark 1F on cell
 //! 5 instead, ZEROIZE gives the indicator 59 ones, one below the bound, and withholds it; the
 //! erasure that follows ends with that pair short. Other cells have the indicator set and three
-//! fuses of the digest: they are torn. The maps are the header's two texts, then one with too
-//! little room, one without its last line feed, and one with a slot that is not secret. A program
-//! that drops an erasure's answer is warned by its compiler, in C and in Rust: an erasure that
-//! ended is not yet an erased partition.
+//! fuses of the digest: they are torn. A key is loaded, and the engine's reply to it handed in
+//! twice; then the cache is cleared again and again, with every other reply first, numbers that are
+//! no reply among them, which count as failed, and with done last. The maps are the header's two
+//! texts, then one with too little room, one without its last line feed, and one with a slot that
+//! is not secret. A program that drops an erasure's answer is warned by its compiler, in C and in
+//! Rust: an erasure that ended is not yet an erased partition.
 
 use checks::runner::{compiled, in_repository, run};
 use std::path::{Path, PathBuf};
@@ -21,9 +23,22 @@ ZEROIZE 4: kind 2, refusal 0, word 0
 ZEROIZE 6: kind 3, refusal 8, word 0
 erasure: kind 2, refusal 15, short 0, first 0, burns 1
 erasure: kind 0, refusal 0, short 1, first 4, burns 3
-KLOD: refusal 0, length 16, order 2, place 0, timeout 6
-KLOD: refusal 12, length 0, order 0, place 0, timeout 0
-place 0: kind 1, tag 700000005
+KLOD: refusal 0, length 16, order 2, place 0, timeout 6; place 0: kind 2, tag 700000005
+KLOD: refusal 12, length 0, order 0, place 0, timeout 0; place 0: kind 2, tag 700000005
+reply 1: refusal 0; place 0: kind 1, tag 700000005
+reply 1: refusal 19; place 0: kind 1, tag 700000005
+CLKC: refusal 0, length 12, order 1, place 0, timeout 1000; place 0: kind 2, tag 700000005
+reply 2: refusal 0; place 0: kind 3, tag 700000005
+CLKC: refusal 0, length 12, order 1, place 0, timeout 1000; place 0: kind 2, tag 700000005
+reply 3: refusal 0; place 0: kind 3, tag 700000005
+CLKC: refusal 0, length 12, order 1, place 0, timeout 1000; place 0: kind 2, tag 700000005
+reply 0: refusal 0; place 0: kind 3, tag 700000005
+CLKC: refusal 0, length 12, order 1, place 0, timeout 1000; place 0: kind 2, tag 700000005
+reply 4: refusal 0; place 0: kind 3, tag 700000005
+CLKC: refusal 0, length 12, order 1, place 0, timeout 1000; place 0: kind 2, tag 700000005
+reply 4294967295: refusal 0; place 0: kind 3, tag 700000005
+CLKC: refusal 0, length 12, order 1, place 0, timeout 1000; place 0: kind 2, tag 700000005
+reply 1: refusal 0; place 0: kind 0, tag 0
 why: kind 0, refusal 0, partition 0, cell 0, ones 0
 why, torn: kind 4, refusal 0, partition 0, cell 2, ones 3
 why, a cell too few: kind 5, refusal 2, partition 0, cell 0, ones 0
@@ -48,7 +63,7 @@ fn warnings(compiler: &mut Command, source: &str) -> String {
 
 #[test]
 fn c_program_gets_the_documents_answers() {
-    let program = compiled("rust/checks/c/words.c", &in_target(""));
+    let program = compiled(&["rust/checks/c/words.c"], &in_target(""));
     assert_eq!(String::from_utf8_lossy(&run(&program, &[])), WORDS);
 }
 

@@ -1,6 +1,7 @@
 //! The names of the C header and of the safe Rust calls have the documents' numbers. The kinds of
-//! answers and of places, the states, the reasons, the orders and the words of a context have none
-//! there; theirs are the archive's, which `callers`, `cache_places` and `calls` see in its answers.
+//! answers and of places, the states, the reasons, the orders, the engine's replies and the words
+//! of a context have none there; theirs are the archive's, which `callers`, `cache_places` and
+//! `calls` see in its answers.
 
 use checks::runner::{compiled, in_repository, printed};
 use sciambrunola::{code, flag, kind, refusal};
@@ -10,8 +11,8 @@ use std::process::Command;
 
 /// Every name of the header after `SCI_`, in its order, with its number in hexadecimal.
 const HEADER: &str = "\
-VERSION 8
-PLACES 10, CONTEXT_WORDS 20, BLOCK_BYTES 80, LEAST_RESPONSE 14, PARTITIONS 10
+VERSION 9
+PLACES 10, CONTEXT_WORDS 21, BLOCK_BYTES 80, LEAST_RESPONSE 14, PARTITIONS 10
 LONGEST_IMAGE 88
 KIND_HARDWARE 0, KIND_SOFTWARE 1, KIND_LIFE_CYCLE 2
 FLAG_ZEROIZABLE 1, FLAG_SECRET 2, FLAG_SLOT 4
@@ -19,15 +20,16 @@ REFUSAL_MAP 1, REFUSAL_LENGTHS 2, REFUSAL_CODE 3, REFUSAL_REQUEST_LENGTH 4
 REFUSAL_CHKSUM 5, REFUSAL_RESERVED 6, REFUSAL_NOT_FOUND 7, REFUSAL_FORBIDDEN 8
 REFUSAL_CLEARS_FUSE 9, REFUSAL_KEYS_HELD A, REFUSAL_NO_HEK B, REFUSAL_TAG_HELD C
 REFUSAL_NO_PLACE D, REFUSAL_TAG_NOT_HELD E, REFUSAL_INDICATOR_UNSET F
-REFUSAL_TEXT 10
+REFUSAL_TEXT 10, REFUSAL_AWAITING 11, REFUSAL_UNSURE 12, REFUSAL_NOT_AWAITED 13
 STATE_ERASED 0, STATE_TORN 1, STATE_BLANK 2, STATE_PROGRAMMED 3
 REASON_AVAILABLE 0, REASON_NO_SLOT 1, REASON_ALL_ERASED 2
 REASON_BLANK 3, REASON_TORN 4, REASON_REFUSED 5
-PLACE_EMPTY 0, PLACE_HELD 1
+PLACE_EMPTY 0, PLACE_HELD 1, PLACE_WAITING 2, PLACE_UNSURE 3
 WORD 0, DONE 1, WITHHELD 2, REFUSED 3
 ENDED 0, CUT 1, ERASURE_REFUSED 2
 NO_CELL FFFFFFFF, NO_SLOT FFFFFFFF
 ORDER_NONE 0, ORDER_CLEAR 1, ORDER_LOAD 2, ORDER_UNLOAD 3
+ENGINE_DONE 1, ENGINE_TIMED_OUT 2, ENGINE_FAILED 3
 CLKC 434C4B43, KLOD 4B4C4F44, KUNL 4B554E4C, FERS 46455253, FSTA 46535441
 ";
 
@@ -47,7 +49,7 @@ fn names_of_the_header_have_the_documents_numbers_and_none_is_left_out() {
     let source = format!("{includes}int main(void)\n{{\n{prints}return 0;\n}}\n");
     let path = concat!(env!("CARGO_TARGET_TMPDIR"), "/names.c");
     fs::write(path, source).expect("the program can be written");
-    let program = compiled(path, Path::new(env!("CARGO_TARGET_TMPDIR")));
+    let program = compiled(&[path], Path::new(env!("CARGO_TARGET_TMPDIR")));
     let expected: Vec<&str> = HEADER.lines().flat_map(|line| line.split(", ")).collect();
     assert_eq!(printed(&mut Command::new(program)).lines().collect::<Vec<_>>(), expected);
 }
@@ -60,6 +62,7 @@ fn names_of_the_safe_calls_have_the_documents_numbers() {
     assert_eq!([refusal::KEYS_HELD, refusal::NO_HEK, refusal::TAG_HELD], [10, 11, 12]);
     let last = [refusal::NO_PLACE, refusal::TAG_NOT_HELD, refusal::INDICATOR_UNSET, refusal::TEXT];
     assert_eq!(last, [13, 14, 15, 16]);
+    assert_eq!([refusal::AWAITING, refusal::UNSURE, refusal::NOT_AWAITED], [17, 18, 19]);
     let codes = [code::CLKC, code::KLOD, code::KUNL, code::FERS, code::FSTA];
     assert_eq!(codes, [0x434C_4B43, 0x4B4C_4F44, 0x4B55_4E4C, 0x4645_5253, 0x4653_5441]);
     assert_eq!([kind::HARDWARE, kind::SOFTWARE, kind::LIFE_CYCLE], [0, 1, 2]);
@@ -68,7 +71,7 @@ fn names_of_the_safe_calls_have_the_documents_numbers() {
     assert_eq!([sciambrunola::PLACES, sciambrunola::PARTITIONS], [16, 16]);
     assert_eq!(sciambrunola::LONGEST_IMAGE, 136);
     let bytes = std::mem::size_of::<sciambrunola::Context>();
-    assert_eq!([sciambrunola::CONTEXT_WORDS, bytes], [32, 256]);
+    assert_eq!([sciambrunola::CONTEXT_WORDS, bytes], [33, 264]);
     assert_eq!([sciambrunola::NO_CELL, sciambrunola::NO_SLOT], [0xFFFF_FFFF; 2]);
     assert!(HEADER.starts_with(&format!("VERSION {:X}\n", sciambrunola::VERSION)));
     let changes = fs::read_to_string(in_repository("docs/CHANGES.md")).expect("it can be read");
