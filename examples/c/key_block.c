@@ -1,34 +1,33 @@
 /*
- * The key block from C, on the small drive of document 01: its map and its states
- * are read, a key is loaded, an erasure is refused while the key is held, the drive
- * restarts, another erasure is cut by a power failure, the next one ends it, and the
- * drive is asked why it offers no key. Each step prints a line; one that fails ends
- * the program with a failing status. main, at the end, tells the story.
+ * The key block from C, on the small drive of document 01: its map and its states are
+ * read; a key is loaded, and an erasure refused while it is held; the engine does not
+ * answer to the load of another key, and a clear recovers; an erasure is cut by a power
+ * failure, the drive restarts, the next erasure ends it, and the drive is asked why it
+ * offers no key. Each step prints a line or two; one that fails ends the program with a
+ * failing status. main, at the end, tells the story; the mailbox and the engine are in
+ * mailbox.c.
  *
  * From the root of the repository, once the archive is built:
- *   cc -std=c99 -I include examples/c/key_block.c target/staticlib/libsciambrunola.a \
- *     -o target/key_block
+ *   cc -std=c99 -I include examples/c/key_block.c examples/c/mailbox.c \
+ *     target/staticlib/libsciambrunola.a -o target/key_block
  *   target/key_block
  * Arguments are stuck marks for cells 1 and 5, in hexadecimal. With 0F word 0 gets 60
  * of its 64 ones, which is enough; with 1F it gets 59, and the slot is not erased. With
  * 0 1F the indicator gets 59, and the slot is erased all the same.
  */
-#include "sciambrunola.h"
+#include "drive.h"
 
 #include <inttypes.h>
-#include <stdbool.h>
 #include <stdio.h>
 #include <stdlib.h>
 #include <string.h>
 
-#define CELLS 12
 #define SLOT 0 /* the partition that holds the secret seed */
 #define SLOT_FLAGS (SCI_FLAG_ZEROIZABLE + SCI_FLAG_SECRET + SCI_FLAG_SLOT)
-#define MEK_BYTES 64
 
 /* The map says what lies where in the fuses. All but kind and flags are numbers
  * of two bytes, low byte first. */
-static const uint8_t map[] = {
+const uint8_t map[MAP_BYTES] = {
     2, 0,  /* partitions */
     12, 0, /* cells */
     60, 0, /* bound: a pair of cells with fewer ones is short */
@@ -38,17 +37,14 @@ static const uint8_t map[] = {
 };
 
 /* The library has no memory of its own. The fuses, one of them set, their stuck marks,
- * and the context, in which it keeps the key cache, here empty, are ours, and lent to
- * it for each call. */
-static uint32_t cells[CELLS] = {1};
-static uint32_t marks[CELLS];
-static sci_context context = {0};
-/* So are the mailbox's buffers. */
-static uint8_t response[SCI_LEAST_RESPONSE];
-static uint8_t block[SCI_BLOCK_BYTES];
+ * and the context, in which it keeps the key cache, here empty, and whether the engine's
+ * reply is awaited, are ours, and lent to it for each call. */
+uint32_t cells[CELLS] = {1};
+uint32_t marks[CELLS];
+sci_context context = {0};
 
 /* A step that was not answered as it should have been; most likely it was refused. */
-static bool failed(const char *step, uint32_t refusal)
+bool failed(const char *step, uint32_t refusal)
 {
     fprintf(stderr, "%s: refusal %" PRIu32 "\n", step, refusal);
     return false;
@@ -130,73 +126,6 @@ static bool tell_why(void)
     }
 }
 
-/* The fields of requests and responses: four bytes each, low byte first. */
-static void put_field(uint8_t *bytes, uint32_t value)
-{
-    int i;
-    for (i = 0; i < 4; i++) {
-        bytes[i] = (uint8_t)(value >> (8 * i));
-    }
-}
-
-static uint32_t field(const uint8_t *bytes)
-{
-    return bytes[0] + ((uint32_t)bytes[1] << 8) + ((uint32_t)bytes[2] << 16)
-           + ((uint32_t)bytes[3] << 24);
-}
-
-/* Puts the chksum into a request and hands it to the mailbox. The chksum is 0 minus
- * the sum of the code's four bytes and of every byte of the request behind it. */
-static sci_reply ask(uint32_t code, uint8_t *request, size_t request_bytes)
-{
-    uint32_t sum = (code & 0xFF) + (code >> 8 & 0xFF) + (code >> 16 & 0xFF) + (code >> 24);
-    size_t i;
-    for (i = 4; i < request_bytes; i++) {
-        sum += request[i];
-    }
-    put_field(request, 0 - sum);
-    return sci_mailbox(map, sizeof map, cells, CELLS, marks, CELLS, &context, code,
-                       request, request_bytes, response, sizeof response, block, sizeof block);
-}
-
-static bool load_key(uint64_t tag, const uint8_t mek[MEK_BYTES])
-{
-    uint8_t request[20 + MEK_BYTES] = {0};
-    sci_reply reply;
-    /* chksum, at 0, is put in by ask */
-    put_field(request + 4, 0);    /* reserved */
-    put_field(request + 8, 1000); /* cmd_timeout */
-    put_field(request + 12, (uint32_t)tag);
-    put_field(request + 16, (uint32_t)(tag >> 32));
-    memcpy(request + 20, mek, MEK_BYTES);
-    reply = ask(SCI_KLOD, request, sizeof request);
-    if (reply.refusal != 0 || reply.order != SCI_ORDER_LOAD) {
-        return failed("KLOD", reply.refusal);
-    }
-    /* Here a drive writes the block to the engine's registers, orders the load, and
-     * wipes request and block, which hold the key. */
-    printf("KLOD: place %" PRIu32 ", timeout %" PRIu32 "\n", reply.place, reply.timeout);
-    return true;
-}
-
-/* Which slot is active, SCI_NO_SLOT if none is, and whether its key is available:
- * it must be as long as the slot has its seed, and not after. */
-static bool ask_for_status(bool must_be_available)
-{
-    uint8_t request[8] = {0}; /* chksum, reserved */
-    sci_reply reply = ask(SCI_FSTA, request, sizeof request);
-    if (reply.refusal != 0 || reply.order != SCI_ORDER_NONE) {
-        return failed("FSTA", reply.refusal);
-    }
-    printf("FSTA: active slot 0x%08" PRIX32 ", HEK available %" PRIu32 "\n",
-           field(response + 12), field(response + 16));
-    if (field(response + 16) != (must_be_available ? 1 : 0)) {
-        fprintf(stderr, "FSTA: the HEK should%s be available\n", must_be_available ? "" : " not");
-        return false;
-    }
-    return true;
-}
-
 static sci_erasure erase(void)
 {
     sci_erasure erasure = sci_erase(map, sizeof map, cells, CELLS, marks, CELLS, &context, SLOT);
@@ -209,7 +138,7 @@ static sci_erasure erase(void)
     return erasure;
 }
 
-/* While a key is held the slot must not change. */
+/* While a key is held the slot must not change; nor while a place waits or is unsure. */
 static bool erase_with_key_held(void)
 {
     sci_erasure erasure = erase();
@@ -217,17 +146,6 @@ static bool erase_with_key_held(void)
         return failed("erasure with a key held", erasure.refusal);
     }
     return true;
-}
-
-/* The drive restarts, and the engine with it: no key is held any more. A drive that
- * goes on unloads its keys with KUNL or CLKC, which have an order for the engine. */
-static bool restart(void)
-{
-    bool empty;
-    sci_restart(&context);
-    empty = sci_cache_place(&context, 0).kind == SCI_PLACE_EMPTY;
-    printf("restart: place 0 is %s\n", empty ? "empty" : "held");
-    return empty || failed("restart", 0);
 }
 
 /* What a power failure leaves that comes at burn 1, the first data word, when its
@@ -241,6 +159,16 @@ static bool erase_slot_cut(void)
     }
     printf("erasure cut: %" PRIu32 " burns\n", erasure.burns);
     return true;
+}
+
+/* The drive is back, and the engine with it: no key is held, and no reply is awaited. A
+ * drive that goes on unloads its keys by KUNL or CLKC, which have an order for the
+ * engine. */
+static bool restart(void)
+{
+    sci_restart(&context);
+    printf("restart\n");
+    return list_places() == 0 || failed("restart", 0);
 }
 
 /* An erasure of the slot that ended has erased it exactly if no pair is short or the
@@ -294,7 +222,15 @@ int main(int argc, char **argv)
     bool done;
     memset(mek, 0x4B, sizeof mek); /* stands for a key */
     done = take_marks(argc, argv) && read_map() && list_states() && ask_for_status(true)
-           && load_key(UINT64_C(0x1122334455667788), mek) && erase_with_key_held() && restart()
-           && erase_slot_cut() && list_states() && erase_slot() && ask_for_status(false);
+           /* a key is loaded, and held once the engine is done */
+           && load_key(1, mek, 0) && engine_replies(SCI_ENGINE_DONE) && erase_with_key_held()
+           /* the engine is silent until the timer runs out; meanwhile FSTA alone is answered */
+           && load_key(2, mek, 0) && clear_keys(SCI_REFUSAL_AWAITING) && ask_for_status(true)
+           && engine_replies(SCI_ENGINE_TIMED_OUT) && load_key(3, mek, SCI_REFUSAL_UNSURE)
+           /* a clear that is done recovers */
+           && clear_keys(0) && engine_replies(SCI_ENGINE_DONE)
+           /* the slot is erased */
+           && erase_slot_cut() && restart() && list_states() && erase_slot()
+           && ask_for_status(false);
     return done ? EXIT_SUCCESS : EXIT_FAILURE;
 }

@@ -1,8 +1,10 @@
-//! The key block from Rust, on the small drive of document 01: its map and its
-//! states are read, a key is loaded, an erasure is refused while the key is held,
-//! the drive restarts, another erasure is cut by a power failure, the next one ends
-//! it, and the drive is asked why it offers no key. Each step prints a line; one that
-//! fails ends the program with a failing status. `story`, at the end, tells it.
+//! The key block from Rust, on the small drive of document 01: its map and its states
+//! are read; a key is loaded, and an erasure refused while it is held; the engine does
+//! not answer to the load of another key, and a clear recovers; an erasure is cut by a
+//! power failure, the drive restarts, the next erasure ends it, and the drive is asked
+//! why it offers no key. Each step prints a line or two; one that fails ends the program
+//! with a failing status. `story`, at the end, tells it; the mailbox and the engine are
+//! in `mailbox.rs`.
 //!
 //! From the root of the repository, once the archive is built:
 //!   cargo run --offline --release --manifest-path rust/Cargo.toml --bin key_block
@@ -11,9 +13,11 @@
 //! not erased. With 0 1F the indicator gets 59, and the slot is erased all the same.
 #![forbid(unsafe_code)]
 
-use sciambrunola::{code, flag, kind, refusal, BLOCK_BYTES, LEAST_RESPONSE};
-use sciambrunola::{erase, erase_cut, mailbox, partition, restart, states, why};
-use sciambrunola::{Context, Erasure, Fields, Order, Reason, Reply, States};
+mod mailbox;
+
+use sciambrunola::{erase, erase_cut, partition, restart, states, why};
+use sciambrunola::{flag, kind, refusal, BLOCK_BYTES, LEAST_RESPONSE};
+use sciambrunola::{Context, EngineReply, Erasure, Fields, Reason, States};
 use std::fmt::Debug;
 use std::process::ExitCode;
 
@@ -40,7 +44,8 @@ struct Drive {
     cells: [u32; 12],
     /// Their stuck marks.
     marks: [u32; 12],
-    /// What the library keeps between calls: the key cache, here empty.
+    /// What the library keeps between calls: the key cache, here empty, and whether the
+    /// engine's reply is awaited.
     context: Context,
     /// The buffers of the mailbox.
     response: [u8; LEAST_RESPONSE],
@@ -107,52 +112,6 @@ impl Drive {
         Ok(())
     }
 
-    /// Puts the chksum into a request and hands it to the mailbox. The chksum is 0
-    /// minus the sum of the code's four bytes and of every byte of the request
-    /// behind it.
-    fn ask(&mut self, code: u32, request: &mut [u8]) -> Reply {
-        let summed = code.to_le_bytes().into_iter().chain(request[4..].iter().copied());
-        let sum = summed.fold(0_u32, |sum, byte| sum.wrapping_add(byte.into()));
-        put_field(request, 0, sum.wrapping_neg());
-        let Drive { cells, marks, context, response, block } = self;
-        mailbox(&MAP, cells, marks, context, code, request, response, block)
-    }
-
-    fn load_key(&mut self, tag: u64, mek: &[u8; 64]) -> Step {
-        let mut request = [0; 20 + 64];
-        // chksum, at 0, is put in by ask
-        put_field(&mut request, 4, 0); // reserved
-        put_field(&mut request, 8, 1000); // cmd_timeout
-        put_field(&mut request, 12, tag as u32);
-        put_field(&mut request, 16, (tag >> 32) as u32);
-        request[20..].copy_from_slice(mek);
-        match self.ask(code::KLOD, &mut request) {
-            Reply::Accepted { order: Order::Load { place, timeout }, .. } => {
-                // Here a drive writes the block to the engine's registers, orders the
-                // load, and wipes request and block, which hold the key.
-                println!("KLOD: place {place}, timeout {timeout}");
-                Ok(())
-            }
-            other => failed("KLOD", other),
-        }
-    }
-
-    /// Which slot is active, `NO_SLOT` if none is, and whether its key is available:
-    /// it must be as long as the slot has its seed, and not after.
-    fn ask_for_status(&mut self, must_be_available: bool) -> Step {
-        let mut request = [0; 8]; // chksum, reserved
-        match self.ask(code::FSTA, &mut request) {
-            Reply::Accepted { order: Order::None, .. } => {}
-            other => return failed("FSTA", other),
-        }
-        let (active, available) = (field(&self.response, 12), field(&self.response, 16));
-        println!("FSTA: active slot 0x{active:08X}, HEK available {available}");
-        match available == u32::from(must_be_available) {
-            true => Ok(()),
-            false => failed("FSTA, HEK available", available),
-        }
-    }
-
     fn erase(&mut self) -> Erasure {
         let erasure = erase(&MAP, &mut self.cells, &self.marks, &mut self.context, SLOT);
         match erasure {
@@ -165,22 +124,12 @@ impl Drive {
         erasure
     }
 
-    /// While a key is held the slot must not change.
+    /// While a key is held the slot must not change; nor while a place waits or is unsure.
     fn erase_with_key_held(&mut self) -> Step {
         match self.erase() {
             Erasure::Refused { number: refusal::KEYS_HELD, .. } => Ok(()),
             other => failed("erasure with a key held", other),
         }
-    }
-
-    /// The drive restarts, and the engine with it: no key is held any more. A drive
-    /// that goes on unloads its keys with KUNL or CLKC, which have an order for the
-    /// engine.
-    fn restart(&mut self) -> Step {
-        restart(&mut self.context);
-        let held = self.context.place(0);
-        println!("restart: place 0 is {}", held.map_or("empty", |_| "held"));
-        held.map_or(Ok(()), |tag| failed("restart", tag))
     }
 
     /// Erases the slot. That the erasure ended is not enough: it has erased the slot
@@ -213,6 +162,18 @@ impl Drive {
             other => failed("cut erasure", other),
         }
     }
+
+    /// The drive is back, and the engine with it: no key is held, and no reply is awaited.
+    /// A drive that goes on unloads its keys by KUNL or CLKC, which have an order for the
+    /// engine.
+    fn restart(&mut self) -> Step {
+        restart(&mut self.context);
+        println!("restart");
+        match self.list_places() {
+            0 => Ok(()),
+            places => failed("restart, places that are not empty", places),
+        }
+    }
 }
 
 /// Whether the pair at this cell is the slot's indicator. That is the last pair: where it
@@ -222,15 +183,6 @@ fn is_indicator(cell: u32) -> bool {
         Fields::Partition { first, length, .. } => cell == first + length - 2,
         Fields::Refused(_) => false,
     }
-}
-
-/// The fields of requests and responses: four bytes each, low byte first.
-fn put_field(bytes: &mut [u8], at: usize, value: u32) {
-    bytes[at..at + 4].copy_from_slice(&value.to_le_bytes());
-}
-
-fn field(bytes: &[u8], at: usize) -> u32 {
-    u32::from_le_bytes([bytes[at], bytes[at + 1], bytes[at + 2], bytes[at + 3]])
 }
 
 /// A mark is 1 to 8 hexadecimal digits and nothing else.
@@ -270,10 +222,23 @@ fn story() -> Step {
     read_map()?;
     drive.list_states()?;
     drive.ask_for_status(true)?;
-    drive.load_key(0x1122_3344_5566_7788, &[0x4B; 64])?; // stands for a key
+    // A key is loaded, and held once the engine is done.
+    let mek = [0x4B; 64]; // stands for a key
+    drive.load_key(1, &mek, 0)?;
+    drive.engine_replies(EngineReply::Done)?;
     drive.erase_with_key_held()?;
-    drive.restart()?;
+    // The engine is silent until the timer runs out; meanwhile FSTA alone is answered.
+    drive.load_key(2, &mek, 0)?;
+    drive.clear_keys(refusal::AWAITING)?;
+    drive.ask_for_status(true)?;
+    drive.engine_replies(EngineReply::TimedOut)?;
+    drive.load_key(3, &mek, refusal::UNSURE)?;
+    // A clear that is done recovers.
+    drive.clear_keys(0)?;
+    drive.engine_replies(EngineReply::Done)?;
+    // The slot is erased.
     drive.erase_slot_cut()?;
+    drive.restart()?;
     drive.list_states()?;
     drive.erase_slot()?;
     drive.ask_for_status(false)

@@ -1,8 +1,9 @@
 //! The examples for C and for Rust print the same lines. They are written from document 01: "The
 //! small drive" gives the map and its fields, case 1 what FSTA answers, case 7 what the cut leaves
-//! and what the next erasure answers; a load takes place 0 ("Active slot and key cache"), an
-//! erasure of the slot is then refused with 10, and an erased slot is not active. Why there is
-//! no key is document 02's P1.
+//! and what the next erasure answers; loads take the places 0 and 1 ("Active slot and key cache"),
+//! an erasure of the slot is refused with 10 in between, and an erased slot is not active. What a
+//! place is before and after each reply of the engine, and what is refused with 17 and 18, is
+//! document 02's P5; why there is no key is its P1.
 //!
 //! With a stuck mark on cell 1 the last erasure is that of case 3 (0F: 60 of 64
 //! ones, erased) or of case 4 (1F: 59 of 64 ones, short 1, torn), with one on cell 5
@@ -13,7 +14,7 @@ use checks::runner;
 use std::path::Path;
 use std::process::Command;
 
-/// Up to the power failure; the states after it have short word 0 and digest, and the
+/// Up to the restart after the power failure; the states then have short word 0 and digest, and the
 /// indicator if its fuses are stuck.
 const BEGINNING: &str = "\
 map: 2 partitions, 12 cells, bound 60
@@ -21,10 +22,25 @@ partition 0: first cell 0, 6 cells, kind 0, flags 7
 partition 1: first cell 6, 6 cells, kind 1, flags 0
 states: 0 programmed, 3 short; 1 blank, 3 short
 FSTA: active slot 0x00000000, HEK available 1
-KLOD: place 0, timeout 1000
+KLOD: load place 0, timeout 1000
+places: 0 waiting
+engine: done
+places: 0 held
 erasure: refused 10
-restart: place 0 is empty
+KLOD: load place 1, timeout 1000
+places: 0 held, 1 waiting
+CLKC: refused 17
+FSTA: active slot 0x00000000, HEK available 1
+engine: timed out
+places: 0 held, 1 unsure
+KLOD: refused 18
+CLKC: clear, timeout 1000
+places: 0 waiting, 1 waiting
+engine: done
+places: all empty
 erasure cut: 2 burns
+restart
+places: all empty
 states: 0 torn, SHORT short; 1 blank, 3 short
 ";
 
@@ -92,7 +108,7 @@ fn check(program: &Path) {
 #[test]
 fn c_example_does_what_the_document_says() {
     let directory = Path::new(env!("CARGO_TARGET_TMPDIR"));
-    check(&runner::compiled("examples/c/key_block.c", directory));
+    check(&runner::compiled(&["examples/c/key_block.c", "examples/c/mailbox.c"], directory));
 }
 
 #[test]
