@@ -1,7 +1,8 @@
-//! Document 01, and P1 and P2 of document 02: every call of the key block, what it answers,
+//! Document 01, and P1, P2 and P5 of document 02: every call of the key block, what it answers,
 //! and the model as one key block among others.
 
 use crate::direct::{self, Answer, Command};
+use crate::engine::{self, EngineReply};
 use crate::erasure::{self, Erase, Erasure};
 use crate::lent::Lent;
 use crate::mailbox::request::Request;
@@ -20,7 +21,7 @@ pub enum Call {
     States,
     /// Document 02, P1: why the drive offers no key.
     Why,
-    /// "Active slot and key cache": what this place of the cache holds.
+    /// "Active slot and key cache": what this place of the cache is.
     Place(u32),
     /// Document 02, P2: the image of the map that this text says.
     WriteMap(Vec<u8>),
@@ -30,6 +31,8 @@ pub enum Call {
     Erase(Erase),
     /// "Mailbox"
     Mailbox(Request),
+    /// Document 02, P5: "the drive hands us the engine's reply".
+    EngineReply(EngineReply),
     /// "Active slot and key cache": "A restart empties the cache".
     Restart,
 }
@@ -45,7 +48,7 @@ pub enum Said {
     Listing([u32; 2]),
     /// The reason, or the number of the refusal.
     Reason(Result<Reason, u32>),
-    /// 0 for an empty place or 1 for a held one, and its tag.
+    /// 0 for an empty place, 1 for a held, 2 for a waiting or 3 for an unsure one, and its tag.
     Place([u64; 2]),
     /// Refusal or 0, the image's bytes.
     Written([u32; 2]),
@@ -55,6 +58,8 @@ pub enum Said {
     Erasure(Erasure),
     /// What the mailbox answers.
     Reply(Reply),
+    /// The engine's reply is taken, or the number of the refusal.
+    Taken(Result<(), u32>),
     /// A restart answers nothing.
     Nothing,
 }
@@ -82,6 +87,7 @@ impl KeyBlock for Model {
             Call::Direct(command) => told(direct::direct(lent, *command), Said::Answer),
             Call::Erase(erase) => told(erasure::erase(lent, *erase), Said::Erasure),
             Call::Mailbox(request) => told(mailbox::mailbox(lent, request), Said::Reply),
+            Call::EngineReply(reply) => told(engine::reply(lent, *reply), Said::Taken),
             Call::Restart => (Said::Nothing, cache::restart(lent)),
         };
         *lent = after;
@@ -109,6 +115,7 @@ impl Call {
             Call::Erase(Erase { cut: None, .. }) => "erasure",
             Call::Erase(Erase { cut: Some(_), .. }) => "cut erasure",
             Call::Mailbox(request) => request.command().map_or("other", fields::Command::name),
+            Call::EngineReply(_) => "engine reply",
             Call::Restart => "restart",
         }
     }
@@ -122,6 +129,7 @@ impl Call {
             Call::Direct(command) => direct::applying(before, *command),
             Call::Erase(erase) => erasure::applying(before, *erase),
             Call::Mailbox(request) => mailbox::applying(before, request),
+            Call::EngineReply(_) => engine::applying(before),
             Call::Place(_) | Call::Restart => vec![],
         }
     }
@@ -135,7 +143,7 @@ impl Said {
             Said::Listing([number, _]) | Said::Written([number, _]) => Some(number),
             Said::Reason(Err(number)) | Said::Answer(Answer::Refused(number)) => Some(number),
             Said::Erasure(Erasure::Refused { number, .. }) => Some(number),
-            Said::Reply(Reply::Refused(number)) => Some(number),
+            Said::Reply(Reply::Refused(number)) | Said::Taken(Err(number)) => Some(number),
             _ => None,
         }
         .filter(|number| *number != 0)

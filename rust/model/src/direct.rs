@@ -40,7 +40,7 @@ impl Command {
 /// "Direct commands": the answer, and everything lent as the command leaves it.
 pub fn direct(before: &Lent, command: Command) -> (Answer, Lent) {
     let mut after = before.clone();
-    let answer = match refusal::lowest(&applying(before, command)) {
+    let answer = match refusal::first(&applying(before, command)) {
         Some(number) => Answer::Refused(number),
         None => carry_out(&mut after, command),
     };

@@ -1,4 +1,4 @@
-//! Document 01, "Erasing a partition", as P4 of document 02 changes it.
+//! Document 01, "Erasing a partition", as P4 and P5 of document 02 change it.
 
 use crate::cache::Cache;
 use crate::drive::Drive;
@@ -59,7 +59,7 @@ pub enum Erasure {
 /// "Erasing a partition": the answer, and everything lent as the erasure leaves it.
 pub fn erase(before: &Lent, erase: Erase) -> (Erasure, Lent) {
     let mut after = before.clone();
-    let erasure = match refusal::lowest(&applying(before, erase)) {
+    let erasure = match refusal::first(&applying(before, erase)) {
         None => carry_out(&mut after, erase),
         // "one burn is reported to a library caller": that of an indicator which, by P4, has no
         // set fuse after it, so that it has set none, and 15 too leaves everything as it was.
@@ -83,7 +83,8 @@ fn carry_out(lent: &mut Lent, erase: Erase) -> Erasure {
     burn_in_order(&mut lent.drive, erase.partition, &values);
     let burns = values.len() as u32;
     if cut.is_some() {
-        // "nothing follows and the key cache is empty"
+        // "nothing follows and the key cache is empty"; P5: "A cut or restart empties all places
+        // and drops an awaited reply."
         lent.cache = Cache::default();
         return Erasure::Cut { burns };
     }

@@ -1,5 +1,5 @@
 //! Document 01, "Burning and counting", "Active slot and key cache" and "Mailbox", and P2
-//! of document 02: everything that a caller lends to a call.
+//! and P5 of document 02: everything that a caller lends to a call.
 
 use crate::cache::Cache;
 use crate::drive::Drive;
@@ -14,7 +14,7 @@ pub const PARTITIONS: usize = 16;
 pub struct Lent {
     /// "Burning and counting": map image, fuse cells and stuck marks.
     pub drive: Drive,
-    /// "Active slot and key cache": the key cache.
+    /// "Active slot and key cache": the key cache, with P5's awaited reply.
     pub cache: Cache,
     /// "Active slot and key cache": the engine block, as the lent buffer for it.
     pub block: Vec<u8>,

@@ -1,4 +1,4 @@
-//! A plain reading of document 01, and of P1, P2 and P4 of document 02, written from the
+//! A plain reading of document 01, and of P1, P2, P4 and P5 of document 02, written from the
 //! documents alone.
 //!
 //! Each file names the section or the request that it reads. Nothing here is
@@ -10,6 +10,7 @@ pub mod cache;
 pub mod call;
 pub mod direct;
 pub mod drive;
+pub mod engine;
 pub mod erasure;
 pub mod fuse;
 pub mod image;
@@ -24,10 +25,11 @@ pub mod status;
 pub mod text;
 pub mod why;
 
-pub use cache::{Cache, PLACES};
+pub use cache::{Awaited, Cache, Place, PLACES};
 pub use call::{Call, KeyBlock, Model, Said};
 pub use direct::{Answer, Command};
 pub use drive::Drive;
+pub use engine::EngineReply;
 pub use erasure::{Cut, Erase, Erasure};
 pub use image::{entry, Image, SLOT_FLAGS};
 pub use lent::{Lent, PARTITIONS};

@@ -1,11 +1,11 @@
-//! Document 01, "Mailbox".
+//! Document 01, "Mailbox", as P5 of document 02 changes it.
 
 pub mod block;
 pub mod fields;
 pub mod request;
 pub mod sum;
 
-use crate::cache::Cache;
+use crate::cache::{Awaited, Place};
 use crate::erasure::{self, Erase, Erasure};
 use crate::lent::Lent;
 use crate::refusal::{self, Refusal};
@@ -45,7 +45,7 @@ type Done = (Order, Vec<u32>);
 /// "Mailbox": the reply, and everything lent as the command leaves it.
 pub fn mailbox(before: &Lent, request: &Request) -> (Reply, Lent) {
     let mut after = before.clone();
-    let reply = match refusal::lowest(&applying(before, request)) {
+    let reply = match refusal::first(&applying(before, request)) {
         None => carry_out(&mut after, request).expect("every field of the command is there"),
         // "Fuses, cache, block and response stay as they were, and the engine order
         // is none."
@@ -74,28 +74,38 @@ fn carry_out(lent: &mut Lent, request: &Request) -> Option<Reply> {
     Some(Reply::Accepted { length: response.len(), order })
 }
 
-/// CLKC: "clear; block all zero". "CLKC empties it too", the cache.
+/// CLKC: "clear; block all zero". P5: "every held or unsure place under a clear, waits until the
+/// reply", which is awaited though no place was held.
 fn clear(lent: &mut Lent, request: &Request) -> Option<Done> {
-    lent.cache = Cache::default();
+    for place in &mut lent.cache.places {
+        if let Place::Held(tag) | Place::Unsure(tag) = *place {
+            *place = Place::Waiting(tag);
+        }
+    }
+    lent.cache.awaited = Some(Awaited::Clear);
     lent.block = vec![0; BLOCK_BYTES];
     Some((Order::Clear { timeout: request.number(Field::CmdTimeout)? }, vec![]))
 }
 
-/// KLOD answers its place: "the lowest empty place, freed ones included".
+/// KLOD answers its place: "the lowest empty place, freed ones included". P5: "A load's place
+/// waits".
 fn load(lent: &mut Lent, request: &Request) -> Option<Done> {
     let (tag, timeout) = (request.tag()?, request.number(Field::CmdTimeout)?);
     let place = lent.cache.lowest_empty()?;
-    lent.cache.places[place] = Some(tag);
+    lent.cache.places[place] = Place::Waiting(tag);
+    lent.cache.awaited = Some(Awaited::Load);
     lent.block = block::load(request.find(Field::Mek)?, tag);
     let place = place as u32;
     Some((Order::Load { place, timeout }, vec![place]))
 }
 
-/// KUNL: "as load with MEK zero". "KUNL frees the lowest place that holds its tag."
+/// KUNL: "as load with MEK zero". "KUNL frees the lowest place that holds its tag." P5: "The place
+/// of an unload [...] waits until the reply".
 fn unload(lent: &mut Lent, request: &Request) -> Option<Done> {
     let (tag, timeout) = (request.tag()?, request.number(Field::CmdTimeout)?);
     let place = lent.cache.lowest_holding(tag)?;
-    lent.cache.places[place] = None;
+    lent.cache.places[place] = Place::Waiting(tag);
+    lent.cache.awaited = Some(Awaited::Unload);
     lent.block = block::load(&[0; 64], tag);
     Some((Order::Unload { place: place as u32, timeout }, vec![]))
 }
@@ -123,7 +133,7 @@ fn status(lent: &Lent) -> Option<Done> {
 
 /// "Refusal numbers": every refusal that applies to the request, each tested by
 /// itself. A test with nothing to go by does not apply: an unknown code has no
-/// length, a request that ends too early lacks the field, and the HEK is not
+/// length and names no command, a request that ends too early lacks the field, and the HEK is not
 /// looked for without a good map and C cells.
 pub fn applying(lent: &Lent, request: &Request) -> Vec<Refusal> {
     let command = request.command();
@@ -142,6 +152,13 @@ pub fn applying(lent: &Lent, request: &Request) -> Vec<Refusal> {
         tests.extend(erasure::partition_tests(lent, Erase { partition, cut: None }));
     }
     let held = request.tag().map(|tag| lent.cache.lowest_holding(tag).is_some());
+    // "KUNL finds a waiting or unsure tag but is refused on it", with 17 or 18.
+    let other_than_fsta = command.map_or(false, |command| command != Command::Fsta);
+    let loads_or_unloads = matches!(command, Some(Command::Klod | Command::Kunl));
+    tests.extend([
+        (Refusal::ReplyAwaited, other_than_fsta && lent.cache.waits()),
+        (Refusal::PlaceUnsure, loads_or_unloads && lent.cache.any_unsure()),
+    ]);
     match command {
         Some(Command::Klod) => tests.extend([
             (Refusal::HekNotAvailable, hek_is_missing(lent)),

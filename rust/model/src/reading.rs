@@ -10,7 +10,7 @@ use crate::refusal::{self, Refusal};
 /// "The map of the fuses": the reader that answers "each entry's fields", here
 /// with the header's, or the number of the refusal.
 pub fn fields(image: &[u8], partition: u32) -> Result<(Header, Entry), u32> {
-    match (Map::read(image), refusal::lowest(&applying_to_fields(image, partition))) {
+    match (Map::read(image), refusal::first(&applying_to_fields(image, partition))) {
         (Some(map), None) => Ok((map.header(), map.entries()[partition as usize])),
         (_, number) => Err(number.expect("a bad map is refused")),
     }
@@ -19,7 +19,7 @@ pub fn fields(image: &[u8], partition: u32) -> Result<(Header, Entry), u32> {
 /// "Burning and counting": the state of each partition with its number of short
 /// pairs, or the number of the refusal.
 pub fn states(drive: &Drive) -> Result<Vec<(State, u32)>, u32> {
-    let map = match (drive.map(), refusal::lowest(&applying(drive))) {
+    let map = match (drive.map(), refusal::first(&applying(drive))) {
         (Some(map), None) => map,
         (_, number) => return Err(number.expect("a bad map is refused")),
     };

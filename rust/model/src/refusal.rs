@@ -37,6 +37,13 @@ pub enum Refusal {
     IndicatorUnset = 15,
     /// Document 02, P2: "text not of that form or output buffer too short"
     BadText = 16,
+    /// Document 02, P5: "a mailbox command other than FSTA while a reply is awaited or a place
+    /// waits"
+    ReplyAwaited = 17,
+    /// Document 02, P5: "KLOD or KUNL while a place is unsure"
+    PlaceUnsure = 18,
+    /// Document 02, P5: "a reply when none is awaited"
+    NotAwaited = 19,
 }
 
 impl Refusal {
@@ -44,11 +51,22 @@ impl Refusal {
     pub fn number(self) -> u32 {
         self as u32
     }
+
+    /// "Checked in ascending order", but for P2's "in this order: 16 [...], 1", and for P5's 17 and
+    /// 18, "after 14 and before 15".
+    fn order(self) -> [u32; 2] {
+        match self {
+            Refusal::BadText => [0, 0],
+            Refusal::ReplyAwaited | Refusal::PlaceUnsure => [14, self.number()],
+            _ => [self.number(), 0],
+        }
+    }
 }
 
-/// "Refusal numbers": "the lowest that applies is given, and none is given otherwise".
-pub fn lowest(applying: &[Refusal]) -> Option<u32> {
-    numbers(applying).into_iter().min()
+/// "Refusal numbers": of those that apply the one that is given, the first in the order in which
+/// they are checked; "none is given otherwise".
+pub fn first(applying: &[Refusal]) -> Option<u32> {
+    applying.first().map(|refusal| refusal.number())
 }
 
 /// "Refusal numbers": the numbers of these refusals.
@@ -56,7 +74,11 @@ pub fn numbers(refusals: &[Refusal]) -> Vec<u32> {
     refusals.iter().map(|refusal| refusal.number()).collect()
 }
 
-/// "Refusal numbers": the refusals whose test says that they apply.
+/// "Refusal numbers": the refusals whose test says that they apply, in the order in which they are
+/// checked.
 pub(crate) fn that_apply(tests: impl IntoIterator<Item = (Refusal, bool)>) -> Vec<Refusal> {
-    tests.into_iter().filter_map(|(refusal, applies)| applies.then_some(refusal)).collect()
+    let applies = |(refusal, applies): (Refusal, bool)| applies.then_some(refusal);
+    let mut applying: Vec<Refusal> = tests.into_iter().filter_map(applies).collect();
+    applying.sort_by_key(|refusal| refusal.order());
+    applying
 }

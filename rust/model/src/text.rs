@@ -81,8 +81,8 @@ pub fn applying(text: &[u8], room: usize) -> Vec<Refusal> {
 /// the image."
 pub fn write(before: &Lent, text: &[u8]) -> ([u32; 2], Lent) {
     let mut after = before.clone();
-    if let Some(refusal) = applying(text, before.output.len()).first() {
-        return ([refusal.number(), 0], after);
+    if let Some(number) = refusal::first(&applying(text, before.output.len())) {
+        return ([number, 0], after);
     }
     let image = Fields::read(text).and_then(|fields| fields.valid_image());
     let image = image.expect("it is not refused");

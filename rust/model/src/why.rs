@@ -34,7 +34,7 @@ pub enum Reason {
 
 /// P1: the reason, or the number of the refusal.
 pub fn why(drive: &Drive) -> Result<Reason, u32> {
-    match (drive.map(), refusal::lowest(&reading::applying(drive))) {
+    match (drive.map(), refusal::first(&reading::applying(drive))) {
         (Some(map), None) => Ok(reason(&map, &drive.cells)),
         (_, number) => Err(number.expect("a bad map is refused")),
     }

@@ -1,8 +1,10 @@
 //! "Mailbox", on the small drive, with its cases 1, 9 and 10: requests and
-//! responses byte by byte. FERS stands with the erasure.
+//! responses byte by byte. FERS stands with the erasure; what the engine's reply does, with P5.
 
 use super::*;
+use model::engine::{reply, EngineReply};
 use model::mailbox::fields;
+use Place::{Empty, Held, Waiting};
 
 /// 1 to 64.
 fn mek() -> [u8; 64] {
@@ -49,18 +51,22 @@ fn case_1_fsta_answers_slot_and_hek() {
     check(&erased, &fsta, Order::None, &response);
 }
 
+/// "CLKC empties it too", by P5 once the engine is done: until then every place waits.
 #[test]
-fn case_9_clkc_empties_the_cache_and_clears_the_block() {
+fn case_9_clkc_clears_the_block_and_empties_the_cache_after_done() {
     let clkc = request(Mail::Clkc, 1000, 0);
     assert_eq!(clkc.bytes, [0xF8, 0xFD, 0xFF, 0xFF, 0, 0, 0, 0, 0xE8, 0x03, 0, 0]);
     let mut before = small(&[], &[]);
-    before.cache.places = [Some(9); 16];
+    before.cache.places = [Held(9); 16];
     let after = check(&before, &clkc, Order::Clear { timeout: 1000 }, &[0; 12]);
-    assert_eq!((after.cache, after.block), (Cache::default(), vec![0; 128]));
+    let waiting = Cache { places: [Waiting(9); 16], awaited: Some(Awaited::Clear) };
+    assert_eq!((&after.cache, &after.block), (&waiting, &vec![0; 128]));
+    let emptied = Lent { cache: Cache::default(), ..after.clone() };
+    assert_eq!(reply(&after, EngineReply::Done), (Ok(()), emptied));
 }
 
 /// "load; MEK, METD = tag in 8 bytes then zeros, AUX zero" and "unload; as load
-/// with MEK zero". "KUNL frees the lowest place that holds its tag."
+/// with MEK zero". "KUNL frees the lowest place that holds its tag", by P5 once the engine is done.
 #[test]
 fn klod_hands_key_and_tag_to_the_engine_and_kunl_the_tag() {
     let tag = 0x8877_6655_4433_2211;
@@ -73,25 +79,32 @@ fn klod_hands_key_and_tag_to_the_engine_and_kunl_the_tag() {
     let load = Order::Load { place: 1, timeout: 5 };
     let response = [&[0xFF; 4][..], &[0; 8], &[1, 0, 0, 0]].concat();
     let mut lent = check(&held(small(&[], &[]), 0), &klod, load, &response);
-    assert_eq!(lent.cache.places[..3], [Some(7), Some(tag), None]);
+    assert_eq!(lent.cache.places[..3], [Held(7), Waiting(tag), Empty]);
+    assert_eq!(lent.cache.awaited, Some(Awaited::Load));
     assert_eq!(lent.block, [&mek()[..], &tag_bytes, &[0; 56]].concat());
-    let low_half = Some(tag & 0xFFFF_FFFF);
-    lent.cache.places[..4].copy_from_slice(&[low_half, None, Some(tag), Some(tag)]);
+    let low_half = Held(tag & 0xFFFF_FFFF);
+    lent.cache = Cache::default();
+    lent.cache.places[..4].copy_from_slice(&[low_half, Empty, Held(tag), Held(tag)]);
     let unload = Order::Unload { place: 2, timeout: 6 };
     let after = check(&lent, &request(Mail::Kunl, 6, tag), unload, &[0; 12]);
-    assert_eq!(after.cache.places[..5], [low_half, None, None, Some(tag), None]);
+    assert_eq!(after.cache.places[..5], [low_half, Empty, Waiting(tag), Held(tag), Empty]);
+    assert_eq!(after.cache.awaited, Some(Awaited::Unload));
     assert_eq!(after.block, [&[0; 64][..], &tag_bytes, &[0; 56]].concat());
 }
 
 /// "Sixteen loads fill places 0 to 15, the seventeenth new tag is 13, a held tag
-/// 12; unload place 3's tag, and the next load gets place 3."
+/// 12; unload place 3's tag, and the next load gets place 3." P5: "In case 10 each order is
+/// answered done."
 #[test]
 fn case_10_sixteen_loads_fill_the_cache_and_a_freed_place_is_taken_again() {
     let mut lent = small(&[], &[]);
     let mut check = |command, tag, expected| {
-        let (reply, after) = mailbox(&lent, &request(command, 5, tag));
-        assert_eq!(reply, expected, "{command:?} {tag}");
-        lent = after;
+        let (replied, after) = mailbox(&lent, &request(command, 5, tag));
+        assert_eq!(replied, expected, "{command:?} {tag}");
+        let ordered = matches!(expected, Reply::Accepted { .. });
+        let (taken, answered) = reply(&after, EngineReply::Done);
+        assert_eq!(taken, if ordered { Ok(()) } else { Err(19) }, "{command:?} {tag}");
+        lent = answered;
     };
     let load = |place| Reply::Accepted { length: 16, order: Order::Load { place, timeout: 5 } };
     (0..16).for_each(|place| check(Mail::Klod, 100 + u64::from(place), load(place)));

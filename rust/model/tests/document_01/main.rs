@@ -1,5 +1,5 @@
 //! The model held to the sentences and numbers of document 01, a file for each
-//! section, and to those of document 02's P4 where it changes them. Every expected
+//! section, and to those of document 02's P4 and P5 where they change them. Every expected
 //! value is a document's, or follows from its rules.
 
 mod direct_commands;
@@ -10,7 +10,7 @@ mod refusal_order;
 mod slots;
 mod small_drive;
 
-use model::cache::Cache;
+use model::cache::{Awaited, Cache, Place};
 use model::direct::{direct, Answer, Command};
 use model::drive::Drive;
 use model::erasure::{erase, Cut, Erase, Erasure};
@@ -60,7 +60,7 @@ fn with(lent: &Lent, cells: Cells, marks: Cells) -> Lent {
 
 /// The same drive with a key held in this place.
 fn held(mut lent: Lent, place: usize) -> Lent {
-    lent.cache.places[place] = Some(7);
+    lent.cache.places[place] = Place::Held(7);
     lent
 }
 

@@ -1,6 +1,6 @@
 //! "Refusal numbers": "Checked in ascending order; the lowest that applies is
 //! given". A call breaks every rule; mended from the lowest number on, it is
-//! refused by one after the other.
+//! refused by one after the other. P5: 17 and 18 "after 14 and before 15".
 
 use super::*;
 use model::mailbox::sum;
@@ -19,11 +19,13 @@ fn check(lent: &Lent, call: &Call, expected: &[u32]) {
 }
 
 /// The small drive, its slot blank but for the digest and every fuse of its
-/// indicator stuck, the cache full of tag 9; what has a lower number is mended:
-/// B of 32, a block that lacks a byte, and the slot without data.
+/// indicator stuck, the cache full of tag 9, a place of it waiting and one unsure, and a reply
+/// awaited; what has a lower number is mended: B of 32, a block that lacks a byte, and the slot
+/// without data.
 fn worst(lowest: u32) -> Lent {
     let mut lent = small(&[(0, u32::from(lowest > 11)), (2, 1)], &[(4, ALL), (5, ALL)]);
-    lent.cache.places = [Some(9); 16];
+    lent.cache = Cache { places: [Place::Held(9); 16], awaited: Some(Awaited::Load) };
+    lent.cache.places[..2].copy_from_slice(&[Place::Waiting(9), Place::Unsure(9)]);
     lent.drive.image[4] = if lowest > 1 { 60 } else { 32 };
     lent.block.truncate(if lowest > 2 { 128 } else { 127 });
     lent
@@ -42,13 +44,15 @@ fn request(lowest: u32, command: Mail, partition: u32) -> Request {
 
 /// The refusals of a request that breaks every rule, the map's among them or not.
 #[test]
-fn mailbox_refuses_with_the_lowest_number_each_time_one_is_mended() {
-    let rows: [(Mail, u32, &[u32], &[u32]); 5] = [
-        (Mail::Klod, 0, &[1, 2, 4, 5, 6, 12, 13], &[2, 4, 5, 6, 11, 12, 13]),
-        (Mail::Kunl, 0, &[1, 2, 4, 5, 6, 14], &[2, 4, 5, 6, 14]),
-        (Mail::Fers, 0, &[1, 2, 4, 5, 6], &[2, 4, 5, 6, 10, 15]),
-        (Mail::Fers, 1, &[1, 2, 4, 5, 6], &[2, 4, 5, 6, 8]),
-        (Mail::Fers, 2, &[1, 2, 4, 5, 6], &[2, 4, 5, 6, 7]),
+fn mailbox_refuses_with_the_first_number_each_time_one_is_mended() {
+    let rows: [(Mail, u32, &[u32], &[u32]); 7] = [
+        (Mail::Clkc, 0, &[1, 2, 4, 5, 6, 17], &[2, 4, 5, 6, 17]),
+        (Mail::Klod, 0, &[1, 2, 4, 5, 6, 12, 13, 17, 18], &[2, 4, 5, 6, 11, 12, 13, 17, 18]),
+        (Mail::Kunl, 0, &[1, 2, 4, 5, 6, 14, 17, 18], &[2, 4, 5, 6, 14, 17, 18]),
+        (Mail::Fers, 0, &[1, 2, 4, 5, 6, 17], &[2, 4, 5, 6, 10, 17, 15]),
+        (Mail::Fers, 1, &[1, 2, 4, 5, 6, 17], &[2, 4, 5, 6, 8, 17]),
+        (Mail::Fers, 2, &[1, 2, 4, 5, 6, 17], &[2, 4, 5, 6, 7, 17]),
+        (Mail::Fsta, 0, &[1, 2, 4, 5, 6], &[2, 4, 5, 6]),
     ];
     for (command, partition, with_bad_map, all) in rows {
         check(&worst(1), &Mailbox(request(1, command, partition)), with_bad_map);
@@ -57,11 +61,11 @@ fn mailbox_refuses_with_the_lowest_number_each_time_one_is_mended() {
         }
     }
     let mut one_empty = worst(12);
-    one_empty.cache.places[15] = None;
-    check(&one_empty, &Mailbox(request(12, Mail::Klod, 0)), &[12]);
+    one_empty.cache.places[15] = Place::Empty;
+    check(&one_empty, &Mailbox(request(12, Mail::Klod, 0)), &[12, 17, 18]);
     let mut names_none = request(6, Mail::Fers, 0);
     names_none.bytes.pop();
-    check(&worst(7), &Mailbox(names_none), &[4, 6]);
+    check(&worst(7), &Mailbox(names_none), &[4, 6, 17]);
 }
 
 /// Case 8: "FERS 1: refusal 8. FERS 2: refusal 7."
