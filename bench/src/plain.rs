@@ -1,16 +1,19 @@
 //! The key block once more, as an engineer writes it in safe Rust from the
 //! documents for firmware in which speed does not matter: no allocation, and a test
 //! that fails ends the call. It shares no code with the model but the names of states,
-//! reasons and orders, and none with the library; it is what the library's times are divided by.
+//! reasons, orders, places and replies, and none with the library; it is what the library's
+//! times are divided by.
 //!
 //! The calls are not inlined, since those of the library cannot be.
 
+mod cache;
 mod erasure;
 mod fuses;
 mod mailbox;
 mod map;
 mod text;
 
+pub use cache::engine_reply;
 pub use erasure::{erase, Erased};
 pub use fuses::{states, why};
 pub use mailbox::{mailbox, Buffers};
@@ -21,9 +24,6 @@ use map::Map;
 
 /// The number of a refusal.
 pub type Refusal = u32;
-
-/// The key cache: each place is empty or holds a tag.
-pub type Cache = [Option<u64>; 16];
 
 /// A drive, with cells that a call may change.
 pub struct Drive<'a> {

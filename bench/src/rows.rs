@@ -4,12 +4,12 @@ use checks::largest::{self, every_state, last_slot_active, last_slot_torn, TAIL}
 use checks::maps::MOST_CELLS as CELLS;
 use checks::{lent, small, texts};
 use model::{
-    entry, Call, Drive, Erase, Image, Lent, Mail, Request, Values, HARDWARE, SLOT_FLAGS, SOFTWARE,
-    ZEROIZABLE,
+    entry, Call, Drive, EngineReply, Erase, Image, KeyBlock, Lent, Mail, Model, Request, Values,
+    HARDWARE, SLOT_FLAGS, SOFTWARE, ZEROIZABLE,
 };
 use sciambrunola::LONGEST_IMAGE;
 
-/// How many places are held where a key is loaded or unloaded, with tags that
+/// How many places are held where keys are loaded, unloaded or cleared, with tags that
 /// count up from the first; KUNL names the last of them.
 const HELD: usize = 8;
 const FIRST_TAG: u64 = 0x0123_4567_89AB_CD00;
@@ -23,8 +23,8 @@ pub struct Row {
     pub start: Lent,
     /// The call. Made again it does the same work again, on what it left itself.
     pub call: Call,
-    /// Whether that holds only if the cache is as it was at the start: then it is
-    /// put back before each call.
+    /// Whether that holds only if the cache, with the awaited reply, is as it was at the
+    /// start: then it is put back before each call.
     pub put_back: bool,
 }
 
@@ -44,6 +44,7 @@ pub fn all() -> Vec<Row> {
     rows.extend(erasures("erasure, 2,048 single cells", singles));
     rows.extend(Mail::ALL.map(|command| mailbox(command, "small drive", Drive::small())));
     rows.extend(Mail::ALL.map(|command| mailbox(command, "largest map", last_slot_active())));
+    rows.push(engine_reply());
     rows.push(row("why, largest map", last_slot_torn(), Call::Why));
     rows.push(write_map("small drive", small::MAP_TEXT.into()));
     rows.push(write_map("largest map", texts::spelled(&largest::slots())));
@@ -72,11 +73,19 @@ fn mailbox(command: Mail, drive_name: &str, drive: Drive) -> Row {
     let values = Values { timeout: 1000, tag, mek: [0x6B; 64], ..Values::default() };
     let call = Call::Mailbox(Request::of(command, &values));
     let mut row = row(&format!("{}, {drive_name}", command.name()), drive, call);
-    if matches!(command, Mail::Klod | Mail::Kunl) {
+    if matches!(command, Mail::Clkc | Mail::Klod | Mail::Kunl) {
         row.start = lent::holding(row.start, FIRST_TAG..=LAST_TAG);
         row.put_back = true;
     }
     row
+}
+
+/// The engine is done with a clear: what CLKC leaves, where it finds the keys held.
+fn engine_reply() -> Row {
+    let Row { mut start, call: clear, .. } = mailbox(Mail::Clkc, "", Drive::small());
+    Model.answer(&mut start, &clear);
+    let call = Call::EngineReply(EngineReply::Done);
+    Row { name: "engine reply, done to a clear".to_string(), start, call, put_back: true }
 }
 
 /// The map of a text, written where there is room for any.

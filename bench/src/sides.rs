@@ -15,7 +15,7 @@ use sciambrunola::Context;
 pub trait Side {
     /// Makes a call.
     fn answer(&mut self, call: &Call) -> Said;
-    /// Makes the cache what it was at the start.
+    /// Makes the cache, with the awaited reply, what it was at the start.
     fn put_back(&mut self);
     /// What the calls have left.
     fn left(&self) -> Lent;

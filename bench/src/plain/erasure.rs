@@ -1,8 +1,10 @@
 //! Document 01, "Erasing a partition", without cuts; document 02, P4.
 
+use super::cache::any_held;
 use super::fuses::{burn, is_short, marks_partition};
 use super::map::{Entry, Map};
-use super::{Cache, Drive, Refusal};
+use super::{Drive, Refusal};
+use model::Cache;
 
 /// What a whole erasure answers.
 pub struct Erased {
@@ -18,23 +20,24 @@ pub struct Erased {
 #[inline(never)]
 pub fn erase(drive: &mut Drive, cache: &Cache, partition: u32) -> Result<Erased, Refusal> {
     let map = drive.map()?;
-    erase_in(&map, drive, cache, partition)
+    let entry = judge(&map, cache, partition)?;
+    run(&map, drive, entry)
 }
 
-/// The same with the map of the drive.
-pub fn erase_in(
-    map: &Map,
-    drive: &mut Drive,
-    cache: &Cache,
-    number: u32,
-) -> Result<Erased, Refusal> {
+/// The partition, if it may be erased: refusals 7, 8 and 10.
+pub fn judge(map: &Map, cache: &Cache, number: u32) -> Result<Entry, Refusal> {
     let entry = map.entry(number).ok_or(7_u32)?;
     if !entry.is_zeroizable() {
         return Err(8);
     }
-    if entry.is_slot() && cache.iter().any(Option::is_some) {
+    if entry.is_slot() && any_held(cache) {
         return Err(10);
     }
+    Ok(entry)
+}
+
+/// Erases a partition that was judged: refusal 15.
+pub fn run(map: &Map, drive: &mut Drive, entry: Entry) -> Result<Erased, Refusal> {
     let (part, marks) = (&mut drive.cells[entry.range()], &drive.marks[entry.range()]);
     let burns = burn_in_order(part, marks, entry)?;
     let (short_pairs, lowest) = count_short(part, map.header.bound);

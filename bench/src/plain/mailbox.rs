@@ -1,10 +1,9 @@
-//! Document 01, "Mailbox", with the cache and the engine block.
+//! Document 01, "Mailbox", with the engine block; document 02, P5.
 
-use super::erasure::erase_in;
 use super::fuses::active_slot;
 use super::map::Map;
-use super::{Cache, Drive, Refusal};
-use model::{Order, State};
+use super::{cache, erasure, Drive, Refusal};
+use model::{Cache, Order, State};
 
 /// What the mailbox is lent besides drive and cache.
 pub struct Buffers<'a> {
@@ -23,7 +22,7 @@ const NONE: u32 = 0xFFFF_FFFF;
 #[inline(never)]
 pub fn mailbox(
     drive: &mut Drive,
-    cache: &mut Cache,
+    keys: &mut Cache,
     code: u32,
     buffers: Buffers,
 ) -> Result<(usize, Order), Refusal> {
@@ -32,36 +31,38 @@ pub fn mailbox(
         return Err(2);
     }
     judge_request(code, buffers.request)?;
-    carry_out(&map, drive, cache, code, buffers)
+    carry_out(&map, drive, keys, code, buffers)
 }
 
 /// What each command does, by its own refusals.
 fn carry_out(
     map: &Map,
     drive: &mut Drive,
-    cache: &mut Cache,
+    keys: &mut Cache,
     code: u32,
     buffers: Buffers,
 ) -> Result<(usize, Order), Refusal> {
     let Buffers { request, response, block } = buffers;
     match &code.to_be_bytes() {
         b"CLKC" => {
-            *cache = [None; 16];
+            cache::clear(keys)?;
             write_block(block, &[], 0);
             Ok((respond(response, &[]), Order::Clear { timeout: u32_at(request, 8) }))
         }
         b"KLOD" => {
-            let place = load(map, drive.cells, cache, tag_of(request))?;
+            let place = cache::load(map, drive.cells, keys, tag_of(request))?;
             write_block(block, &request[20..], tag_of(request));
             Ok((respond(response, &[place]), Order::Load { place, timeout: u32_at(request, 8) }))
         }
         b"KUNL" => {
-            let place = unload(cache, tag_of(request))?;
+            let place = cache::unload(keys, tag_of(request))?;
             write_block(block, &[], tag_of(request));
             Ok((respond(response, &[]), Order::Unload { place, timeout: u32_at(request, 8) }))
         }
         b"FERS" => {
-            let erased = erase_in(map, drive, cache, u32_at(request, 8))?;
+            let entry = erasure::judge(map, keys, u32_at(request, 8))?;
+            cache::judge_idle(keys)?;
+            let erased = erasure::run(map, drive, entry)?;
             let first_short = erased.first_short.unwrap_or(NONE);
             Ok((respond(response, &[erased.short_pairs, first_short]), Order::None))
         }
@@ -93,26 +94,6 @@ fn judge_request(code: u32, request: &[u8]) -> Result<(), Refusal> {
         return Err(6);
     }
     Ok(())
-}
-
-/// Takes the lowest empty place for a tag: refusals 11, 12 and 13.
-fn load(map: &Map, cells: &[u32], cache: &mut Cache, tag: u64) -> Result<u32, Refusal> {
-    if !matches!(active_slot(map, cells), Some((_, State::Programmed))) {
-        return Err(11);
-    }
-    if cache.contains(&Some(tag)) {
-        return Err(12);
-    }
-    let place = cache.iter().position(Option::is_none).ok_or(13_u32)?;
-    cache[place] = Some(tag);
-    Ok(place as u32)
-}
-
-/// Frees the lowest place that holds a tag: refusal 14.
-fn unload(cache: &mut Cache, tag: u64) -> Result<u32, Refusal> {
-    let place = cache.iter().position(|held| *held == Some(tag)).ok_or(14_u32)?;
-    cache[place] = None;
-    Ok(place as u32)
 }
 
 /// Builds the engine block of a key, which may be none, and a tag; then writes it.

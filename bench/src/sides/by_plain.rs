@@ -21,7 +21,7 @@ impl KeyBlock for Plain {
                 Err(number) => [number, 0],
             }),
             Call::Erase(Erase { partition, cut: None }) => {
-                Said::Erasure(match plain::erase(&mut drive, &cache.places, *partition) {
+                Said::Erasure(match plain::erase(&mut drive, cache, *partition) {
                     Ok(Erased { short_pairs, first_short, burns }) => {
                         Erasure::Erased { short_pairs, first_short, burns }
                     }
@@ -30,12 +30,13 @@ impl KeyBlock for Plain {
             }
             Call::Mailbox(request) => {
                 let buffers = Buffers { request: &request.bytes, response, block };
-                let told = plain::mailbox(&mut drive, &mut cache.places, request.code, buffers);
+                let told = plain::mailbox(&mut drive, cache, request.code, buffers);
                 Said::Reply(match told {
                     Ok((length, order)) => Reply::Accepted { length, order },
                     Err(number) => Reply::Refused(number),
                 })
             }
+            Call::EngineReply(reply) => Said::Taken(plain::engine_reply(cache, *reply)),
             _ => Model.answer(lent, call),
         }
     }
