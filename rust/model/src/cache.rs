@@ -39,11 +39,37 @@ pub struct Cache {
 }
 
 impl Place {
+    /// "held": the engine has its key.
+    pub fn is_held(&self) -> bool {
+        matches!(self, Place::Held(_))
+    }
+
+    /// "waiting", for a reply.
+    pub fn is_waiting(&self) -> bool {
+        matches!(self, Place::Waiting(_))
+    }
+
+    /// "unsure", whether the engine has its key.
+    pub fn is_unsure(&self) -> bool {
+        matches!(self, Place::Unsure(_))
+    }
+
     /// The tag, none of an empty place.
     pub fn tag(self) -> Option<u64> {
         match self {
             Place::Empty => None,
             Place::Waiting(tag) | Place::Held(tag) | Place::Unsure(tag) => Some(tag),
+        }
+    }
+
+    /// As C is told it: its kind, 0 for empty, 1 for held, 2 for waiting, 3 for unsure, and its
+    /// tag, 0 of an empty place.
+    pub fn told(self) -> [u64; 2] {
+        match self {
+            Place::Empty => [0, 0],
+            Place::Held(tag) => [1, tag],
+            Place::Waiting(tag) => [2, tag],
+            Place::Unsure(tag) => [3, tag],
         }
     }
 }
@@ -57,24 +83,22 @@ impl Cache {
 
     /// P5: whether "a reply is awaited or a place waits".
     pub fn waits(&self) -> bool {
-        let waiting = |place: &Place| matches!(place, Place::Waiting(_));
-        self.awaited.is_some() || self.places.iter().any(waiting)
+        self.awaited.is_some() || self.places.iter().any(Place::is_waiting)
     }
 
     /// P5: whether "a place is unsure".
     pub fn any_unsure(&self) -> bool {
-        self.places.iter().any(|place| matches!(place, Place::Unsure(_)))
+        self.places.iter().any(Place::is_unsure)
     }
 
-    /// A place as C is told it, its kind and its tag: 0 and 0 if it is empty or not there; 1 is
-    /// held, 2 waiting, 3 unsure.
-    pub fn told(&self, place: u32) -> [u64; 2] {
-        match self.places.get(place as usize) {
-            None | Some(Place::Empty) => [0, 0],
-            Some(Place::Held(tag)) => [1, *tag],
-            Some(Place::Waiting(tag)) => [2, *tag],
-            Some(Place::Unsure(tag)) => [3, *tag],
-        }
+    /// The tags of all places that have one, in their order.
+    pub fn tags(&self) -> Vec<u64> {
+        self.places.iter().filter_map(|place| place.tag()).collect()
+    }
+
+    /// A place, an empty one if there is none of this number.
+    pub fn place(&self, number: u32) -> Place {
+        self.places.get(number as usize).copied().unwrap_or_default()
     }
 
     /// "the lowest empty place, freed ones included", none if the cache is full.

@@ -81,7 +81,7 @@ impl KeyBlock for Model {
                 return Said::Fields(reading::numbers(&lent.drive.image, *number));
             }
             Call::Why => return Said::Reason(why::why(&lent.drive)),
-            Call::Place(number) => return Said::Place(lent.cache.told(*number)),
+            Call::Place(number) => return Said::Place(lent.cache.place(*number).told()),
             Call::States => told(reading::list(lent), Said::Listing),
             Call::WriteMap(text) => told(text::write(lent, text), Said::Written),
             Call::Direct(command) => told(direct::direct(lent, *command), Said::Answer),

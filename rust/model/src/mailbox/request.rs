@@ -77,7 +77,7 @@ impl Request {
     }
 
     /// "tag low, tag high", if the command has them and the request reaches so far.
-    pub(super) fn tag(&self) -> Option<u64> {
+    pub fn tag(&self) -> Option<u64> {
         let (low, high) = (self.number(Field::TagLow)?, self.number(Field::TagHigh)?);
         Some(u64::from(low) + (u64::from(high) << 32))
     }

@@ -64,6 +64,14 @@ fn refused(before: &Lent, (command, tag, partition): (Mail, u64, u32), expected:
     assert!(expected.is_empty() || after == *before, "{call}");
 }
 
+/// "A cache place is empty, waiting, held or unsure": as C is told it, and past the last place.
+#[test]
+fn p5_a_place_is_empty_waiting_held_or_unsure() {
+    let each = cache(&[Empty, Held(8), Waiting(7), Unsure(9)], None);
+    let told = [0, 1, 2, 3, 16, u32::MAX].map(|number| each.place(number).told());
+    assert_eq!(told, [[0, 0], [1, 8], [2, 7], [3, 9], [0, 0], [0, 0]]);
+}
+
 /// "A load's place waits, and is held only after done; any other reply makes it unsure."
 #[test]
 fn p5_a_loads_place_waits_and_is_held_only_after_done() {
@@ -150,10 +158,7 @@ fn p5_waiting_and_unsure_places_count_as_held() {
         refused(&one, (Mail::Kunl, 9, 0), &[14, number]);
         refused(&small(&[place; PLACES], awaited), (Mail::Klod, 9, 0), &[13, number]);
         refused(&small(&[place; PLACES], awaited), (Mail::Klod, 8, 0), &[12, 13, number]);
-        assert_eq!(one.cache.told(1), [if number == 17 { 2 } else { 3 }, 8]);
     }
-    let held = cache(&[Held(8)], None);
-    assert_eq!([0, 1, 16].map(|place| held.told(place)), [[1, 8], [0, 0], [0, 0]]);
 }
 
 /// "17 a mailbox command other than FSTA while a reply is awaited or a place waits; 18 KLOD or KUNL
