@@ -6,8 +6,8 @@
 use crate::context;
 use crate::painted::left_by_c;
 use model::{
-    Answer, Call, Command, Cut, Drive, Erase, Erasure, KeyBlock, Lent, Order, Reason, Reply,
-    Request, Said,
+    Answer, Call, Command, Cut, Drive, EngineReply, Erase, Erasure, KeyBlock, Lent, Order, Reason,
+    Reply, Request, Said,
 };
 use sciambrunola::{Context, NO_CELL};
 
@@ -33,6 +33,7 @@ extern "C" {
     fn sci_erase_cut();
     fn sci_restart();
     fn sci_mailbox();
+    fn sci_engine_reply();
 }
 
 type Function = unsafe extern "C" fn();
@@ -134,7 +135,21 @@ fn arguments(lent: &mut Lent, context: &mut Context, call: &Call) -> (Function, 
             let block = [block.as_mut_ptr() as u64, block.len() as u64];
             (sci_mailbox, [&drive[..], &request, &response, &block].concat())
         }
+        Call::EngineReply(reply) => {
+            (sci_engine_reply, with(&drive[6..], &numbers(*reply).map(|number| low(&number))))
+        }
         Call::Restart => (sci_restart, drive[6..].to_vec()),
+    }
+}
+
+/// The engine's reply and the vendor's number, which is looked at by nobody. A reply of any number
+/// but the first two is a failure, 0 too: here that is 3, or the vendor's own.
+fn numbers(reply: EngineReply) -> [u32; 2] {
+    match reply {
+        EngineReply::Done => [1, 0xDEAD_BEEF],
+        EngineReply::TimedOut => [2, 0xDEAD_BEEF],
+        EngineReply::Failed(vendor @ (1 | 2)) => [3, vendor],
+        EngineReply::Failed(vendor) => [vendor, vendor],
     }
 }
 
@@ -155,6 +170,8 @@ fn said(call: &Call, told: [u32; 8]) -> Said {
         (Call::States, [refusal, partitions, ..]) => Said::Listing([refusal, partitions]),
         (Call::Why, _) => Said::Reason(reason(told)),
         (Call::WriteMap(_), [refusal, bytes, ..]) => Said::Written([refusal, bytes]),
+        (Call::EngineReply(_), [0, ..]) => Said::Taken(Ok(())),
+        (Call::EngineReply(_), [number, ..]) => Said::Taken(Err(number)),
         (Call::Restart, _) => Said::Nothing,
         (Call::Direct(_), [0, 0, low, high, ..]) => Said::Answer(Answer::Word(word(low, high))),
         (Call::Direct(_), [1, 0, 0, 0, ..]) => Said::Answer(Answer::Done),

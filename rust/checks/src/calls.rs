@@ -4,15 +4,17 @@
 pub mod commands;
 mod met;
 mod outcomes;
+mod pairs;
 pub mod requests;
 mod scene;
+mod sights;
 
-pub use met::possible;
+pub use met::{answered, answers, possible};
 pub use outcomes::{came, outcomes};
 
 use crate::tally::Tally;
 use met::Seen;
-use model::{KeyBlock, Lent, Model, Said};
+use model::{Call, KeyBlock, Lent, Model, Said};
 pub use scene::Scene;
 use std::fmt::Debug;
 
@@ -37,19 +39,33 @@ pub fn sequence(number: usize, block: &mut impl KeyBlock, tally: &mut Tally) -> 
 /// What a side answered and left.
 pub type Side<'a> = (Said, &'a Lent);
 
+/// The first thing in which a call that was made on this is not the model's.
+pub fn unlike_model(before: &Lent, call: &Call, block: Side) -> Option<String> {
+    let mut expected = before.clone();
+    let said = Model.answer(&mut expected, call);
+    difference((said, &expected), block)
+}
+
 /// The first thing in which what a key block answers or leaves is not the model's:
-/// the answer, the cells, the places of the cache, the block, the response buffer,
-/// the two arrays of the states, the buffer for a map, or anything else that is lent.
+/// the answer, the cells, the places of the cache, the awaited reply, the block, the response
+/// buffer, the two arrays of the states, the buffer for a map, or anything else that is lent.
 pub fn difference((said, expected): Side, (answered, found): Side) -> Option<String> {
     if said == answered && expected == found {
         return None;
     }
     let answers = || format!("the answer: the model says {said:?}, the key block {answered:?}");
+    let awaited = || match [expected, found].map(|lent| lent.cache.awaited) {
+        [model, block] if model == block => None,
+        [model, block] => {
+            Some(format!("the awaited reply: the model has {model:?}, the key block has {block:?}"))
+        }
+    };
     let others = || format!("the model leaves {expected:X?}, the key block leaves {found:X?}");
     let first = (said != answered)
         .then(answers)
         .or_else(|| first("cell", &expected.drive.cells, &found.drive.cells))
         .or_else(|| first("place", &expected.cache.places, &found.cache.places))
+        .or_else(awaited)
         .or_else(|| first("block byte", &expected.block, &found.block))
         .or_else(|| first("response byte", &expected.response, &found.response))
         .or_else(|| first("state", &expected.states, &found.states))

@@ -1,20 +1,22 @@
 //! Copies of the model with one fault each, for the tests of the tests: one for each thing that a
 //! comparison looks at, for each clause of a history one that breaks it, wrong states, reasons and
-//! maps. That the proofs refuse faults of the key block itself is shown by the edits in
-//! `crates/*/must-fail`.
+//! maps, and wrong places, orders and replies. That the proofs refuse faults of the key block itself
+//! is shown by the edits in `crates/*/must-fail`.
 
+mod engine;
 mod maps;
 
+pub use engine::of_engine;
 pub use maps::OF_MAPS;
 
 use crate::layout::Layout;
 use model::Reason::{AllErased, Available, Blank, NoSlot, Torn};
-use model::{Answer, Call, Command, Cut, Drive, Erase, Erasure, KeyBlock, Lent, Model};
-use model::{Reason, Reply, Said, State};
+use model::{Answer, Awaited, Call, Command, Cut, Drive, Erase, Erasure, KeyBlock, Lent, Model};
+use model::{Place, Reason, Reply, Said, State};
 use std::ops::Range;
 
 /// Faults by how their difference from the model is told.
-pub const OF_COMPARISONS: [&str; 16] = [
+pub const OF_COMPARISONS: [&str; 18] = [
     "the answer: the model says Answer(",
     "the answer: the model says Erasure(",
     "the answer: the model says Fields(",
@@ -22,9 +24,11 @@ pub const OF_COMPARISONS: [&str; 16] = [
     "the answer: the model says Place(",
     "the answer: the model says Reason(",
     "the answer: the model says Reply(",
+    "the answer: the model says Taken(",
     "the answer: the model says Written(",
     "cell 0: ",
     "place 15: ",
+    "the awaited reply: ",
     "block byte 127: ",
     "response byte 7: ",
     "state 0: ",
@@ -34,7 +38,7 @@ pub const OF_COMPARISONS: [&str; 16] = [
 ];
 
 /// Faults that break demand 3, or document 02's P4 on erasures.
-pub const OF_HISTORIES: [&str; 19] = [
+pub const OF_HISTORIES: [&str; 20] = [
     "numbers in 8 bits",
     "numbers in 16 bits",
     "a cut at the indicator burns data",
@@ -51,6 +55,7 @@ pub const OF_HISTORIES: [&str; 19] = [
     "response buffer cleared to its end",
     "a restart burns fuses",
     "a key held after an erasure",
+    "a reply awaited after an erasure",
     "15 for a short indicator",
     "no 15 for an indicator without a set fuse",
     "an erasure tells its last short pair",
@@ -75,6 +80,10 @@ impl KeyBlock for Faulty {
     fn answer(&mut self, lent: &mut Lent, call: &Call) -> Said {
         let before = lent.clone();
         let said = Model.answer(lent, &self.asked(call));
+        let made = engine::Made { call, before: &before, said, after: lent };
+        if let Some(said) = engine::faulty(self.0, made) {
+            return said;
+        }
         let faulty = match (call, said) {
             (Call::Erase(Erase { partition, cut }), Said::Erasure(erasure)) => {
                 let partition = Layout::of(&before.drive, *partition);
@@ -157,7 +166,10 @@ impl Faulty {
                 return Some(Cut { burns: 0 });
             }
             ("a key held after an erasure" | "place 15: ", Erased { .. }) => {
-                lent.cache.places[15] = Some(0);
+                lent.cache.places[15] = Place::Held(0);
+            }
+            ("a reply awaited after an erasure", Erased { .. }) => {
+                lent.cache.awaited = Some(Awaited::Clear);
             }
             // Document 01's rule, which left the indicator burned.
             ("15 for a short indicator", Erased { .. }) if weak => {
@@ -245,6 +257,12 @@ impl Faulty {
                         *state = State::Programmed as u32;
                     }
                 }
+            }
+            ("the answer: the model says Taken(", Said::Taken(Err(_))) => {
+                return Some(Said::Taken(Ok(())));
+            }
+            ("the awaited reply: ", Said::Taken(Ok(()))) => {
+                lent.cache.awaited = Some(Awaited::Load)
             }
             ("state 0: ", Said::Listing([1 | 2, _])) => lent.states[0] ^= 1,
             ("short pairs 15: ", Said::Listing([0, 1..=15])) => lent.short_pairs[15] ^= 1,

@@ -16,7 +16,7 @@ use crate::{drives, maps};
 use model::{Call, Drive, Erase, Lent};
 
 /// "The list starts from an empty cache and any cells and marks. Map, marks and
-/// partition number stay the same".
+/// partition number stay the same". P5: "all places empty, no reply awaited".
 #[derive(Clone, Debug)]
 pub struct History {
     pub start: Drive,

@@ -1,6 +1,6 @@
 //! What a call is lent beside a drive: buffers, and keys that are held.
 
-use model::{Drive, Lent};
+use model::{Drive, Lent, Place};
 use sciambrunola::{BLOCK_BYTES, LEAST_RESPONSE};
 
 /// A drive with no key held. Block and response buffer hold bytes that no answer has.
@@ -11,6 +11,6 @@ pub fn of(drive: Drive) -> Lent {
 
 /// The same with these tags in the lowest places of the cache.
 pub fn holding(mut lent: Lent, tags: impl IntoIterator<Item = u64>) -> Lent {
-    lent.cache.places.iter_mut().zip(tags).for_each(|(place, tag)| *place = Some(tag));
+    lent.cache.places.iter_mut().zip(tags).for_each(|(place, tag)| *place = Place::Held(tag));
     lent
 }

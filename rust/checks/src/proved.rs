@@ -3,8 +3,8 @@
 
 use crate::context;
 use model::{
-    Answer, Call, Command, Cut, Drive, Erase, Erasure, KeyBlock, Lent, Order, Reason, Reply, Said,
-    PARTITIONS,
+    Answer, Call, Command, Cut, Drive, EngineReply, Erase, Erasure, KeyBlock, Lent, Order, Reason,
+    Reply, Said, PARTITIONS,
 };
 use sciambrunola as proved;
 use sciambrunola::{Context, Fields, States};
@@ -36,9 +36,7 @@ pub fn answer(lent: &mut Lent, context: &mut Context, call: &Call) -> Said {
             Ok(bytes) => [0, bytes as u32],
             Err(number) => [number, 0],
         }),
-        Call::Place(number) => {
-            Said::Place(context.place(*number as usize).map_or([0, 0], |tag| [1, tag]))
-        }
+        Call::Place(number) => Said::Place(context::place(context.place(*number as usize)).told()),
         Call::Direct(command) => {
             Said::Answer(answer_of(proved::direct(image, cells, marks, context, given(*command))))
         }
@@ -55,6 +53,7 @@ pub fn answer(lent: &mut Lent, context: &mut Context, call: &Call) -> Said {
                 image, cells, marks, context, code, bytes, response, block,
             )))
         }
+        Call::EngineReply(reply) => Said::Taken(proved::engine_reply(context, handed(*reply))),
         Call::Restart => {
             proved::restart(context);
             Said::Nothing
@@ -98,6 +97,15 @@ pub fn given(command: Command) -> proved::Command {
         Command::Read { cell } => proved::Command::Read { cell },
         Command::Write { cell, value } => proved::Command::Write { cell, value },
         Command::Zeroize { cell } => proved::Command::Zeroize { cell },
+    }
+}
+
+/// The wrapper's own reply of the engine.
+pub fn handed(reply: EngineReply) -> proved::EngineReply {
+    match reply {
+        EngineReply::Done => proved::EngineReply::Done,
+        EngineReply::TimedOut => proved::EngineReply::TimedOut,
+        EngineReply::Failed(vendor) => proved::EngineReply::Failed(vendor),
     }
 }
 

@@ -70,6 +70,7 @@ pub fn text(said: Said) -> String {
             return format!("refused {number}, burns {burns}");
         }
         Said::Reply(Reply::Accepted { length, order }) => (length, order),
+        Said::Taken(Ok(())) => return "taken".to_string(),
         other => return other.refusal().map_or(format!("{other:?}"), |n| format!("refused {n}")),
     };
     match order {

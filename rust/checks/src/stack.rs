@@ -11,7 +11,10 @@ use crate::proved::{self, Proved};
 use crate::{calls, context};
 use cases::Case;
 use model::{Call, Cut, Drive, Erase, KeyBlock, Lent, Request, Said};
-use sciambrunola::{direct, erase, erase_cut, mailbox, partition, restart, states, why, write_map};
+use sciambrunola::write_map;
+use sciambrunola::{
+    direct, engine_reply, erase, erase_cut, mailbox, partition, restart, states, why,
+};
 use sciambrunola::{Command, Context};
 
 /// The bytes of stack that a call uses, or the most that some calls do.
@@ -93,6 +96,10 @@ fn through_wrapper(lent: &Lent, call: &Call) -> usize {
         Call::Direct(command) => of_direct(lent, proved::given(*command)),
         Call::Erase(erase) => of_erasure(lent, *erase),
         Call::Mailbox(request) => of_mailbox(lent, request),
+        Call::EngineReply(reply) => {
+            let reply = proved::handed(*reply);
+            measured(lent, |_, context| engine_reply(context, reply))
+        }
         Call::Restart => measured(lent, |_, context| restart(context)),
     }
 }

@@ -1,6 +1,7 @@
-//! Document 01, "The small drive", cases 1 to 10, of which document 02, P4, changes 5 and 6: what
-//! the program `small_drive` prints, which plays them on the proved key block. A line has the
-//! request's chksum, the answer, the fields of the response, and the slot as it stands after it.
+//! Document 01, "The small drive", cases 1 to 10, of which document 02 changes 5 and 6 by P4 and 10
+//! by P5: what the program `small_drive` prints, which plays them on the proved key block. A line
+//! has the request's chksum, the answer, the fields of the response, and the slot as it stands
+//! after it.
 
 use checks::runner;
 use std::path::Path;
@@ -43,8 +44,9 @@ const WORDS: [(&str, &str); 3] = [
 ];
 
 /// The bytes of KLOD's code sum to 12A, those of KUNL's to 13A. Of a response the
-/// place is the one byte that is not 0.
+/// place is the one byte that is not 0. P5: "each order is answered done".
 fn case_10() -> String {
+    const DONE: &str = "case 10: engine done: taken; FRESH\n";
     let line = |name: &str, sum: u32, tag: u32, answer: &str| {
         let chksum = 0_u32.wrapping_sub(sum + tag);
         format!("case 10: {name} {chksum:08X}, tag {tag}: {answer}; FRESH\n")
@@ -52,13 +54,13 @@ fn case_10() -> String {
     let load = |tag: u32, place: u32| {
         let chksum = 0_u32.wrapping_sub(place);
         let response = format!("[{chksum:X}, 0, 0, {place:X}]");
-        line("KLOD", 0x12A, tag, &format!("16 bytes, load, place {place} {response}"))
+        line("KLOD", 0x12A, tag, &format!("16 bytes, load, place {place} {response}")) + DONE
     };
     let mut lines: String = (0..16).map(|place| load(100 + place, place)).collect();
     lines += &line("KLOD", 0x12A, 116, "refused 13");
     lines += &line("KLOD", 0x12A, 107, "refused 12");
     lines += &line("KUNL", 0x13A, 103, "12 bytes, unload, place 3 [0, 0, 0]");
-    lines + &load(117, 3)
+    lines + DONE + &load(117, 3)
 }
 
 #[test]

@@ -4,14 +4,16 @@
 use checks::calls::commands::low_bits;
 use checks::proved::Proved;
 use checks::small::{erase, response, slot, stuck, text};
-use model::{Call, Cut, KeyBlock, Lent, Mail, Reply, Request, Said, Values};
-use Ask::{CutAt, Erase, Send};
+use model::{Call, Cut, EngineReply, KeyBlock, Lent, Mail, Reply, Request, Said, Values};
+use Ask::{CutAt, Done, Erase, Send};
 
 /// What is asked for.
 #[derive(Clone, Copy)]
 enum Ask {
     /// A mailbox command with a partition, a timeout or a tag.
     Send(Mail, u32),
+    /// The engine's reply to the order of such a command.
+    Done,
     /// The erasure of the slot.
     Erase,
     /// The same cut at a burn, with so many low bits burned.
@@ -44,19 +46,26 @@ fn main() {
             println!("case {number}, mark {mark:02X} on cell {cell}: {}", line(&mut lent, *ask));
         }
     }
-    // Sixteen loads and a seventeenth, a held tag, place 3's tag unloaded, a load.
+    // Sixteen loads and a seventeenth, a held tag, place 3's tag unloaded, a load; "each order is
+    // answered done".
     let mut lent = stuck(&[]);
-    let mut load = |command, tag| println!("case 10: {}", line(&mut lent, Send(command, tag)));
-    (100..117).for_each(|tag| load(Mail::Klod, tag));
-    load(Mail::Klod, 107);
-    load(Mail::Kunl, 103);
-    load(Mail::Klod, 117);
+    let loads = (100..117).chain([107]).map(|tag| (Mail::Klod, tag));
+    for (command, tag) in loads.chain([(Mail::Kunl, 103), (Mail::Klod, 117)]) {
+        println!("case 10: {}", line(&mut lent, Send(command, tag)));
+        if lent.cache.awaited.is_some() {
+            println!("case 10: {}", line(&mut lent, Done));
+        }
+    }
 }
 
 /// Asks the key block, and tells all that followed.
 fn line(lent: &mut Lent, ask: Ask) -> String {
     let (asked, said) = match ask {
         Send(command, number) => mail(lent, command, number),
+        Done => {
+            let done = Call::EngineReply(EngineReply::Done);
+            ("engine done".to_string(), Proved.answer(lent, &done))
+        }
         Erase => ("erasure".to_string(), erase(lent, None)),
         CutAt(k, low) => {
             let cut = Cut { k, mask: low_bits(low) };

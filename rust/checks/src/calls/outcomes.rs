@@ -4,11 +4,11 @@ use model::{Answer, Call, Erasure, Order, Reason, Reply, Said};
 
 /// What each call can come to when it is carried out, and its refusals. The states
 /// come to any number of partitions.
-const OUTCOMES: [(&str, &[&str], &[u32]); 17] = [
+const OUTCOMES: [(&str, &[&str], &[u32]); 18] = [
     ("fields", &KINDS_AND_FLAGS, &[1, 7]),
     ("states", &[], &[1, 2]),
     ("why", &["available", "no slot", "all erased", "blank", "torn"], &[1, 2]),
-    ("place", &["empty", "held"], &[]),
+    ("place", &["empty", "held", "waiting", "unsure"], &[]),
     ("write map", &["written"], &[16, 1]),
     ("READ", &["word"], &[1, 2, 7, 8]),
     ("WRITE", &["word", "done"], &[1, 2, 7, 8, 9, 10]),
@@ -16,10 +16,11 @@ const OUTCOMES: [(&str, &[&str], &[u32]); 17] = [
     ("erasure", &["erased"], &[1, 2, 7, 8, 10, 15]),
     ("cut erasure", &["cut", "erased"], &[1, 2, 7, 8, 10, 15]),
     ("restart", &["nothing"], &[]),
-    ("CLKC", &["clear"], &[1, 2, 4, 5, 6]),
-    ("KLOD", &["load"], &[1, 2, 4, 5, 6, 11, 12, 13]),
-    ("KUNL", &["unload"], &[1, 2, 4, 5, 6, 14]),
-    ("FERS", &["none"], &[1, 2, 4, 5, 6, 7, 8, 10, 15]),
+    ("engine reply", &["taken"], &[19]),
+    ("CLKC", &["clear"], &[1, 2, 4, 5, 6, 17]),
+    ("KLOD", &["load"], &[1, 2, 4, 5, 6, 11, 12, 13, 17, 18]),
+    ("KUNL", &["unload"], &[1, 2, 4, 5, 6, 14, 17, 18]),
+    ("FERS", &["none"], &[1, 2, 4, 5, 6, 7, 8, 10, 17, 15]),
     ("FSTA", &["none"], &[1, 2, 4, 5, 6]),
     ("other", &[], &[1, 2, 3]),
 ];
@@ -55,7 +56,9 @@ fn outcome(said: Said) -> String {
         Said::Reason(Ok(Reason::Torn { .. })) => "torn",
         Said::Reason(_) => "available",
         Said::Place([0, _]) => "empty",
-        Said::Place(_) => "held",
+        Said::Place([1, _]) => "held",
+        Said::Place([2, _]) => "waiting",
+        Said::Place(_) => "unsure",
         Said::Written(_) => "written",
         Said::Answer(Answer::Word(_)) => "word",
         Said::Answer(Answer::Done) => "done",
@@ -66,6 +69,7 @@ fn outcome(said: Said) -> String {
         Said::Reply(Reply::Accepted { order: Order::Load { .. }, .. }) => "load",
         Said::Reply(Reply::Accepted { order: Order::Unload { .. }, .. }) => "unload",
         Said::Reply(_) => "none",
+        Said::Taken(_) => "taken",
         Said::Nothing => "nothing",
     }
     .to_string()

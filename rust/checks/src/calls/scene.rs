@@ -2,30 +2,37 @@
 //! with the calls that come one after the other.
 
 use super::{commands, requests};
+use crate::context::REPLIES;
 use crate::random::Random;
 use crate::texts::{self, Text};
 use crate::{drives, maps};
 use model::direct::Command::{Read, Zeroize};
-use model::{Cache, Call, Drive, Erase, Lent, Mail, PARTITIONS, PLACES};
+use model::EngineReply::{Done, Failed, TimedOut};
+use model::Place::{self, Empty, Held, Unsure, Waiting};
+use model::{Cache, Call, Drive, EngineReply, Erase, Lent, Mail, PARTITIONS, PLACES};
 
 const SEED: u64 = 0x5EED_0C11_0016_0128;
 const TAGS: usize = 24;
 
 /// How often each call is made, in parts of the sum: fields, states, why, place, map; READ,
-/// WRITE, ZEROIZE; erasure, cut erasure, restart; then the mailbox commands in the
+/// WRITE, ZEROIZE; erasure, cut erasure, restart, engine reply; then the mailbox commands in the
 /// order of the document's table, CLKC, KLOD, KUNL, FERS, FSTA.
-type Mood = [usize; 16];
+type Mood = [usize; 17];
 
 const MOODS: [Mood; 4] = [
     // Many loads, which fill the cache.
-    [4, 4, 3, 2, 2, 4, 8, 6, 1, 1, 1, 1, 40, 12, 1, 5],
+    [4, 4, 3, 2, 2, 4, 8, 6, 1, 1, 1, 2, 1, 40, 12, 1, 5],
     // Many burns of single words.
-    [4, 4, 3, 2, 2, 12, 40, 16, 1, 1, 1, 4, 4, 4, 1, 8],
+    [4, 4, 3, 2, 2, 12, 40, 16, 1, 1, 1, 2, 4, 4, 4, 1, 8],
     // Some of each.
-    [4, 4, 3, 2, 2, 10, 20, 12, 2, 2, 2, 2, 20, 12, 2, 8],
+    [4, 4, 3, 2, 2, 10, 20, 12, 2, 2, 2, 2, 2, 20, 12, 2, 8],
     // Many erasures, with loads between them.
-    [4, 4, 3, 2, 2, 4, 8, 6, 10, 30, 6, 1, 10, 4, 20, 5],
+    [4, 4, 3, 2, 2, 4, 8, 6, 10, 30, 6, 2, 1, 10, 4, 20, 5],
 ];
+
+/// The places of the engine's reply and of CLKC, the first mailbox command, among them.
+const REPLY: usize = 11;
+const CLKC: usize = 12;
 
 /// A sequence of calls, made again by its number alone.
 pub struct Scene {
@@ -56,6 +63,11 @@ impl Scene {
         &self.lent.drive
     }
 
+    /// Any cache with the sequence's tags.
+    pub fn any_cache(&mut self) -> Cache {
+        any_cache(&mut self.random, &self.tags)
+    }
+
     /// The next call with what it is lent. Some calls find something damaged, for them alone.
     pub fn next_call(&mut self) -> (Call, Lent) {
         let call = self.call();
@@ -80,9 +92,21 @@ impl Scene {
         }
     }
 
+    /// Which call is made. A third of those while a reply is awaited are the reply, and a sixth of
+    /// those while a place is unsure are CLKC, so that sequences get on.
+    fn choice(&mut self) -> usize {
+        let cache = &self.lent.cache;
+        match self.random.below(6) {
+            0 | 1 if cache.awaited.is_some() => REPLY,
+            2 if cache.any_unsure() => CLKC,
+            _ => self.random.weighted(&self.mood),
+        }
+    }
+
     fn call(&mut self) -> Call {
+        let choice = self.choice();
         let (random, drive) = (&mut self.random, &self.lent.drive);
-        match random.weighted(&self.mood) {
+        match choice {
             0 => {
                 let there = drive.map().map_or(0, |map| map.entries().len());
                 Call::Partition(mostly_below(random, there))
@@ -100,10 +124,14 @@ impl Scene {
                 Call::Erase(Erase { partition, cut })
             }
             10 => Call::Restart,
+            REPLY => Call::EngineReply(reply(random)),
             mailbox => {
                 let partition = commands::partition(random, drive);
-                let command = Mail::ALL[mailbox - 11];
-                Call::Mailbox(requests::generated(random, command, &self.tags, partition))
+                let command = Mail::ALL[mailbox - CLKC];
+                let cached = self.lent.cache.tags();
+                let unloads = command == Mail::Kunl && random.one_in(2) && !cached.is_empty();
+                let tags = if unloads { &cached } else { &self.tags };
+                Call::Mailbox(requests::generated(random, command, tags, partition))
             }
         }
     }
@@ -148,24 +176,40 @@ fn tags(random: &mut Random) -> Vec<u64> {
     tags
 }
 
+/// Mostly done, so that keys are held.
+fn reply(random: &mut Random) -> EngineReply {
+    let any = random.cell();
+    let failed = random.pick(&[0, 1, 2, 3, 4, u32::MAX, any]);
+    random.pick(&[Done, Done, Done, Done, TimedOut, Failed(failed)])
+}
+
 /// Empty half of the time; otherwise full, nearly full, or any.
 fn cache(random: &mut Random, tags: &[u64]) -> Cache {
-    let mut places = [None; PLACES];
-    let way = random.below(8);
+    let (mut cache, way) = (Cache::default(), random.below(8));
+    if way >= 6 {
+        return any_cache(random, tags);
+    }
     if way >= 4 {
-        places.iter_mut().zip(tags).for_each(|(place, tag)| *place = Some(*tag));
-        places.rotate_left(random.below(PLACES));
+        cache.places.iter_mut().zip(tags).for_each(|(place, tag)| *place = Held(*tag));
+        cache.places.rotate_left(random.below(PLACES));
     }
-    let any = random.below(PLACES);
-    match way {
-        5 => places[any] = None,
-        // Any places empty, and any tag in the others, perhaps twice.
-        6 | 7 => places.iter_mut().for_each(|place| {
-            *place = (!random.one_in(3)).then_some(random.pick(tags));
-        }),
-        _ => {}
+    if way == 5 {
+        cache.places[random.below(PLACES)] = Empty;
     }
-    Cache { places }
+    cache
+}
+
+/// Any two kinds of places, some or none of them empty, with any tags, perhaps twice, and any reply
+/// awaited or none: much of this no call leaves.
+fn any_cache(random: &mut Random, tags: &[u64]) -> Cache {
+    let tags = if random.one_in(2) { tags } else { &tags[..6] };
+    let kinds: [fn(u64) -> Place; 3] = [Held, Waiting, Unsure];
+    let [one, other] = [random.pick(&kinds), random.pick(&kinds)];
+    let third = if random.one_in(4) { one } else { |_| Empty };
+    let place = |_| random.pick(&[one, other, third])(random.pick(tags));
+    let places = [(); PLACES].map(place);
+    let awaited = if random.one_in(2) { random.pick(&REPLIES) } else { None };
+    Cache { places, awaited }
 }
 
 /// Most drives are small. A few are large, have any number of partitions of any

@@ -4,7 +4,7 @@
 use super::play::Step;
 use crate::small::response;
 use crate::tally::{self, Row};
-use model::{Call, Cut, Erase, Erasure, Reply, Said};
+use model::{Cache, Call, Cut, Erase, Erasure, Reply, Said};
 use sciambrunola::{LEAST_RESPONSE, NO_CELL};
 
 /// What a clause says of one attempt: whether it holds, or none where it asks for nothing.
@@ -93,8 +93,8 @@ pub const ALL: &[Row<Clause>] = &[
         matches!(s.call, Call::Mailbox(_)).then(|| after == before)
     }),
     ("a restart changes no cell", |s| s.is_restart().then(|| s.cells() == s.before.drive.cells)),
-    // "Begin with no key held": no attempt loads one.
-    ("no key is ever held", |s| Some(!s.after.cache.any_held())),
+    // P5: "Demand 3 begins with all places empty, no reply awaited", and no attempt has an order.
+    ("every place is empty, no reply awaited", |s| Some(s.after.cache == Cache::default())),
 ];
 
 /// The clauses that do not hold after this attempt.

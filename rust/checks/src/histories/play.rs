@@ -3,11 +3,11 @@
 //! or a generator which has become trivial, is noticed.
 
 use super::{clauses, Attempt, History};
-use crate::calls::difference;
+use crate::calls::unlike_model;
 use crate::layout::Layout;
 use crate::proved::Proved;
 use crate::tally::{self, Row, Tally};
-use model::{Call, Cut, Erase, KeyBlock, Lent, Model, Said};
+use model::{Call, Cut, Erase, KeyBlock, Lent, Said};
 use std::collections::BTreeSet;
 use std::ops::Range;
 
@@ -42,8 +42,8 @@ pub struct Past {
     pub completed: bool,
 }
 
-/// The refusals that an attempt can get; a slot is never refused with 10, since
-/// no key is ever held.
+/// The refusals that an attempt can get; 10 and 17 are none, since every place stays
+/// empty, and no reply is ever awaited.
 const REFUSALS: [u32; 8] = [1, 2, 4, 5, 6, 7, 8, 15];
 
 type Sight = fn(&Step) -> bool;
@@ -184,7 +184,8 @@ pub fn all_hold(count: usize, history: impl Fn(usize) -> History + Sync) -> Tall
         let steps = play(&history, &mut Proved);
         for (place, step) in steps.iter().enumerate() {
             let clause = clauses::broken(step).into_iter().next();
-            if let Some(found) = clause.or_else(|| unlike_model(step)) {
+            let unlike_model = || unlike_model(&step.before, step.call, (step.said, &step.after));
+            if let Some(found) = clause.or_else(unlike_model) {
                 let call = step.call;
                 panic!("history {number}, attempt {place}, {call}: {found}\n{history:X?}");
             }
@@ -256,11 +257,4 @@ fn alone(history: &History, attempt: &Attempt, block: &mut impl KeyBlock) -> (Sa
     bytes.for_each(|byte| *byte = !*byte);
     let said = block.answer(&mut lent, &attempt.call);
     (said, lent)
-}
-
-/// The first thing in which a step is not the model's.
-fn unlike_model(step: &Step) -> Option<String> {
-    let mut expected = step.before.clone();
-    let said = Model.answer(&mut expected, step.call);
-    difference((said, &expected), (step.said, &step.after))
 }

@@ -8,8 +8,9 @@ use crate::largest::{self, LAST, SHARE, TAIL};
 use crate::small::{self, INDICATOR_STUCK, MAP_TEXT, SLOT};
 use crate::{lent, texts};
 use model::Command::{Read, Write, Zeroize};
+use model::EngineReply::{self, Done, TimedOut};
 use model::Mail::{Clkc, Fsta, Klod, Kunl};
-use model::{Call, Cut, Erase, Lent, Mail, Request, Values, HARDWARE, SOFTWARE};
+use model::{Call, Cut, Erase, KeyBlock, Lent, Mail, Model, Request, Values, HARDWARE, SOFTWARE};
 use sciambrunola::LONGEST_IMAGE;
 use std::ops::RangeInclusive;
 
@@ -39,7 +40,8 @@ const INDICATOR_UNSET: &[(usize, u32)] = &[(2, u32::MAX), (1, u32::MAX)];
 /// All of them, in the order of the table's rows.
 pub fn all() -> Vec<Case> {
     let mailbox = [clkc(), klod(), kunl(), by_fers(), fsta(), unknown()];
-    [reading(), direct(), erasures(), restarts()].into_iter().chain(mailbox).flatten().collect()
+    let others = [reading(), direct(), erasures(), restarts(), replies()];
+    others.into_iter().chain(mailbox).flatten().collect()
 }
 
 fn case(comes_to: &'static str, lent: Lent, call: Call) -> Case {
@@ -129,6 +131,29 @@ fn restarts() -> Vec<Case> {
     [small([1]), large(ALL)].map(|lent| case("restart nothing", lent, Call::Restart)).into()
 }
 
+/// The same where every place that is held waits under a clear.
+fn waiting(mut lent: Lent) -> Lent {
+    Model.answer(&mut lent, &Call::Mailbox(plain(Clkc, 0)));
+    lent
+}
+
+/// The same where every place that is held is unsure.
+fn unsure(lent: Lent) -> Lent {
+    let mut lent = waiting(lent);
+    Model.answer(&mut lent, &Call::EngineReply(TimedOut));
+    lent
+}
+
+fn replies() -> Vec<Case> {
+    let reply = |comes_to, lent, reply| case(comes_to, lent, Call::EngineReply(reply));
+    let taken = |lent: Lent| {
+        let replies = [Done, TimedOut, EngineReply::Failed(7)];
+        replies.map(|given| reply("engine reply taken", waiting(lent.clone()), given))
+    };
+    let refused = [small([1]), large(ALL)].map(|lent| reply("engine reply refused 19", lent, Done));
+    [small([1]), large(ALL)].into_iter().flat_map(taken).chain(refused).collect()
+}
+
 /// A mailbox call.
 fn mail(comes_to: &'static str, lent: Lent, request: Request) -> Case {
     case(comes_to, lent, Call::Mailbox(request))
@@ -150,6 +175,8 @@ fn clkc() -> Vec<Case> {
         mail("CLKC clear", large(ALL), plain(Clkc, 0)),
         mail("CLKC refused 6", small([1]), plain(Clkc, 1)),
         mail("CLKC refused 6", large(ALL), plain(Clkc, 1)),
+        mail("CLKC clear", unsure(large(ALL)), plain(Clkc, 0)),
+        mail("CLKC refused 17", waiting(large(ALL)), plain(Clkc, 0)),
     ]
 }
 
@@ -162,6 +189,8 @@ fn klod() -> Vec<Case> {
         mail("KLOD refused 11", torn, tagged(Klod, OTHER_TAG)),
         mail("KLOD refused 12", large(ALL), tagged(Klod, LAST_TAG)),
         mail("KLOD refused 13", large(ALL), tagged(Klod, OTHER_TAG)),
+        mail("KLOD refused 17", waiting(large(ALL_BUT_ONE)), tagged(Klod, OTHER_TAG)),
+        mail("KLOD refused 18", unsure(large(ALL_BUT_ONE)), tagged(Klod, OTHER_TAG)),
     ]
 }
 
@@ -171,6 +200,8 @@ fn kunl() -> Vec<Case> {
         mail("KUNL unload", large(ALL), tagged(Kunl, LAST_TAG)),
         mail("KUNL refused 14", small([2]), tagged(Kunl, 1)),
         mail("KUNL refused 14", large(ALL), tagged(Kunl, OTHER_TAG)),
+        mail("KUNL refused 17", waiting(large(ALL)), tagged(Kunl, LAST_TAG)),
+        mail("KUNL refused 18", unsure(large(ALL)), tagged(Kunl, LAST_TAG)),
     ]
 }
 
@@ -185,6 +216,7 @@ fn by_fers() -> Vec<Case> {
     for (lent, partition) in to_erase(INDICATOR_UNSET) {
         cases.push(mail("FERS refused 15", lent, fers(partition)));
     }
+    cases.push(mail("FERS refused 17", waiting(beside_slots(HARDWARE)), fers(0)));
     cases
 }
 
@@ -192,6 +224,7 @@ fn fsta() -> Vec<Case> {
     vec![
         mail("FSTA none", small([1]), plain(Fsta, 0)),
         mail("FSTA none", large(ALL), plain(Fsta, 0)),
+        mail("FSTA none", waiting(large(ALL)), plain(Fsta, 0)),
         mail("FSTA refused 6", small([1]), plain(Fsta, 1)),
         mail("FSTA refused 6", large(ALL), plain(Fsta, 1)),
     ]
