@@ -7,6 +7,7 @@ pub mod archive;
 pub mod calls;
 pub mod context;
 pub mod drives;
+pub mod engine;
 pub mod faults;
 pub mod histories;
 pub mod largest;
