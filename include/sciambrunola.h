@@ -100,13 +100,14 @@
  *       uint32_t vendor = 0, said = run_engine(&reply, block, &vendor);
  *       refusal = sci_engine_reply(&context, said, vendor);
  *   }
- * Until the reply has come every mailbox command but FSTA is refused with 17, so that
- * one order at most is open. The response tells that the order was given, and not that
- * the engine carried it out: the reply tells that.
+ * Until the reply has come every mailbox command but FSTA is refused, with 17 unless one
+ * of 1 to 14 applies, so that one order at most is open. The response tells that the
+ * order was given, and not that the engine carried it out: the reply tells that.
  * To recover: after a reply that was not done the places that waited are unsure, and
- * KLOD and KUNL are refused with 18. CLKC is not. Give its order to the engine; done to
- * it empties every place, and after any other reply they are unsure again, and CLKC can
- * be asked for again. Or restart the drive, and the engine with it: sci_restart.
+ * while one is, KLOD and KUNL are refused, with 18 unless one of 1 to 14 applies. CLKC is
+ * not. Give its order to the engine; done to it empties every place, and after any other
+ * reply they are unsure again, and CLKC can be asked for again. Or restart the drive, and
+ * the engine with it: sci_restart.
  * A late reply, to an order that the drive has already handed in as timed out, is
  * refused with 19 if no reply is awaited; but if another order is open by then, it would
  * be taken for that order's. A reply carries nothing by which the key block could tell:
