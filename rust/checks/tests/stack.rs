@@ -13,7 +13,7 @@ use std::ptr;
 /// No call through its safe Rust function may use so much, whatever its compiler makes of it.
 const KIB: usize = 1024;
 
-const DRIVES: usize = 1_000;
+const DRIVES: usize = 2_000;
 /// Every outcome of every call has to be met so often.
 const LEAST: usize = 3;
 
@@ -82,7 +82,7 @@ fn no_generated_call_goes_deeper_than_its_row_says() {
             scene.go_on(after);
         }
     });
-    total.check((80_000, "calls, their stacks measured"), calls::outcomes(), LEAST);
+    total.check((160_000, "calls, their stacks measured"), calls::outcomes(), LEAST);
 }
 
 /// A call with these bytes.

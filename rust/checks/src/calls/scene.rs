@@ -220,7 +220,7 @@ fn drive(random: &mut Random) -> Drive {
         0 => maps::largest(random),
         3..=6 => maps::compact(random),
         7 => maps::longest(random),
-        8 => maps::good(random),
+        8 | 9 => maps::good(random),
         _ => maps::small(random),
     };
     let bytes = if way == 1 { maps::damaged(random, image) } else { image.bytes() };
