@@ -11,7 +11,7 @@ use checks::proved::Proved;
 use checks::tally::Tally;
 use std::collections::BTreeSet;
 
-const SEQUENCES: usize = 100_000;
+const SEQUENCES: usize = 200_000;
 /// In so many of them each way of the engine and everything else has to be met.
 const LEAST: usize = 1_000;
 /// The sequences in which the faults have to break the clauses.
