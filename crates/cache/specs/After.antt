@@ -35,6 +35,10 @@ is-at context j kind tag l e f = record { kind-is = sym (kind-read context j l) 
 -- ---- what a search says of the kind and the tag of a place
 
 module _ (c : Cache) (k : ℕ) where
+  pub is-occupied : isAt c Occupied k ≡ true → kindIn c k ≡ empty → ⊥
+  unfolding isAt
+  is-occupied y = eqb-false _ _ (not-true _ y)
+
   pub not-occupied : isAt c Occupied k ≡ false → kindIn c k ≡ empty
   unfolding isAt
   not-occupied o = eqb-true _ _ (not-false _ o)

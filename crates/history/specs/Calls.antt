@@ -17,6 +17,8 @@ use Rattle.erasure.specs.Erasure.{erasureOf, cutErasureOf, restarted}
 use Rattle.mailbox.specs.declared.Reply.{Reply}
 use Rattle.mailbox.specs.declared.Reply.the-variants.{Refused, Accepted}
 use Rattle.mailbox.specs.Mailbox.{Lent, lent, mailboxOf}
+use Rattle.engine.specs.declared.Order.{Order}
+use Rattle.engine.specs.declared.Order.the-variants.{Nothing}
 use Rattle.engine.specs.declared.EngineReply.{EngineReply}
 use Rattle.reply.specs.declared.Answer.{Answer as ReplyAnswer}
 use Rattle.reply.specs.declared.Answer.the-variants.{Taken, Refused as NotTaken}
@@ -48,6 +50,11 @@ pub data Told : Type 0 where
 abbrev pub lengthIn : Reply → ℕ
 lengthIn (Refused number) = 0
 lengthIn (Accepted length order) = length
+
+-- the order that a reply gives the engine
+abbrev pub orderIn : Reply → Order
+orderIn (Refused number) = Nothing
+orderIn (Accepted length order) = order
 
 -- a call of the mailbox tells its reply and its response, which is no longer than the reply says
 abbrev pub replying : Outcome Reply Lent → Outcome Told State

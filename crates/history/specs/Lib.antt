@@ -2,6 +2,10 @@ pub mod Calls
 pub mod Words
 pub mod Secrets
 pub mod HeldKeys
+pub mod Orders
+pub mod Standing
+pub mod Settled
+pub mod OrdersProof
 pub mod Refused
 pub mod Fifteen
 pub mod Demand3

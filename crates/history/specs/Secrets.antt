@@ -24,8 +24,6 @@ use Rattle.direct.specs.declared.Answer.the-variants.{Word as Shown, Done, With
 use Rattle.direct.specs.Direct.{wordOf, forbidden, directTests, cellsAfter, carriedOut, directBy, directOf}
 use Rattle.direct.specs.Laws.{direct-at}
 use Rattle.drive.specs.Active.{Available, available-tells}
-use Rattle.engine.specs.declared.Order.{Order}
-use Rattle.engine.specs.declared.Order.the-variants.{Nothing}
 use Rattle.codec.specs.Fields.{commandOf}
 use Rattle.mailbox.specs.declared.Effect.{Effect}
 use Rattle.mailbox.specs.declared.Reply.{Reply}
@@ -33,6 +31,7 @@ use Rattle.mailbox.specs.declared.Reply.the-variants.{Refused as RefusedCall, A
 use Rattle.mailbox.specs.Laws.{load-only}
 use Rattle.mailbox.specs.Told.{mailbox-elim}
 use Rattle.mailbox.specs.Mailbox.{refused, accepted, replyOf, Lent, mailboxOf, loads}
+use Rattle.history.specs.Calls.{orderIn}
 
 -- an answer that shows a word
 abbrev pub shows : Answer → Bool
@@ -157,11 +156,6 @@ module _ (image marks : List ℕ) (s : State) (cell : ℕ) (hidden : Secret imag
       (λ h y. shown-least (secret (entryOf image (hidden .partition))) (headerOf image .bound) _ (hidden .is-secret) _ refl y))
 
 -- ---- loads
-
--- the order that a reply gives the engine
-abbrev pub orderIn : Reply → Order
-orderIn (RefusedCall number) = Nothing
-orderIn (Accepted length order) = order
 
 -- an effect orders what its reply tells, or less
 ordered-by : (e : Effect) → loads (orderIn (replyOf e)) ≡ true → loads (e .order) ≡ true
