@@ -9,7 +9,7 @@ use native.Mathlib.Omega.{arith}
 use native.Mathlib.Numerals.{add-one}
 use lib.Dec.{eqb, ltb}
 use lib.ListN.{length, getD, set, drop, replicate, length-replicate, replicate-append-replicate}
-use lib.Seq.{set-at, drop-cons, drop-set-lt, append-snoc, getD-set-other}
+use lib.Seq.{set-at, set-getD, drop-cons, drop-set-lt, append-snoc}
 use borrow.Author.Tests.{lt-ltb, le-ltb, ltb-true, eqb-true, ne-eqb}
 use Rattle.laws.specs.Tests.{decided, lt-or-le, and, not-yes, cond-keeps}
 use Rattle.laws.specs.Below.{firstFrom, first-tells, first-least}
@@ -114,6 +114,10 @@ module _ (reply : ℕ) (context : List ℕ) where
 
   pub awaiting-behind : drop cacheWords (awaiting reply context) ≡ drop cacheWords context
   awaiting-behind = drop-set-lt cacheWords context awaitedAt reply (omega arith)
+
+-- where none is awaited, to drop it changes nothing
+pub none-dropped : (context : List ℕ) → cacheOf context .awaited ≡ noReply → awaiting noReply context ≡ context
+none-dropped context e = ap (set context awaitedAt) (sym (awaited-read context ∙ e)) ∙ set-getD context awaitedAt 0
 
 pub clearing-behind : (context : List ℕ) → drop cacheWords (clearing context) ≡ drop cacheWords context
 clearing-behind context = awaiting-behind clearReply (turnedBelow Occupied waiting places context) ∙ turned-behind Occupied waiting places context

@@ -106,7 +106,7 @@ pub fn awaited(context: &Context) -> u64
 pub fn is_busy(context: &Context) -> bool
     ensures { λ r. ⌜ r ≡ busy (cacheOf (now (context .entry))) ⌝ }
 {
-    (awaited(context) != NO_REPLY) | has_place(context, Sought::Waiting)
+    awaited(context) != NO_REPLY || has_place(context, Sought::Waiting)
 }
 
 // A place by its kind, with its tag.
@@ -219,11 +219,13 @@ fn empty_words(words: &mut [u64], count: usize)
     }
 }
 
-// Empties every place and drops an awaited reply. (A loop over one word more would be compiled to a call
-// of `memset`, and the archive needs no symbol of others.)
+// Empties every place and drops an awaited reply. (The one word more is stored under a test of its own:
+// without it all are compiled to a call of `memset`, and the archive needs no symbol of others.)
 pub fn clear(context: &mut Context)
     ensures { λ _. ⌜ now (context .exit) ≡ emptied (now (context .entry)) ⌝ }
 {
     empty_words(context, PLACES_WORDS);
-    context[context::AWAITED] = NO_REPLY;
+    if awaited(context) != NO_REPLY {
+        context[context::AWAITED] = NO_REPLY;
+    }
 }

@@ -93,10 +93,10 @@ fn is_klod_or_kunl(command: Command) -> bool
 fn engine_refusal(command: Command, context: &Context) -> u32
     ensures { λ r. ⌜ r ≡ numberOf (engineTests command (now (context .entry))) ⌝ }
 {
-    if is_other_than_fsta(command) & cache::is_busy(context) {
+    if is_other_than_fsta(command) && cache::is_busy(context) {
         return 17;
     }
-    if is_klod_or_kunl(command) & cache::has_place(context, Sought::Unsure) {
+    if is_klod_or_kunl(command) && cache::has_place(context, Sought::Unsure) {
         return 18;
     }
     0
