@@ -71,7 +71,11 @@ fn is_at(context: &Context, sought: Sought, k: usize) -> bool
     requires { ⌜ k < 16 ⌝ }
     ensures { λ r. ⌜ r ≡ isAt (cacheOf (now (context .entry))) sought k ⌝ }
 {
-    kind_is(sought, context[context::KINDS + k], context[context::TAGS + k])
+    kind_is(
+        sought,
+        context[context::KINDS + k],
+        context[context::TAGS + k],
+    )
 }
 
 // The lowest place of those sought, 16 where there is none.

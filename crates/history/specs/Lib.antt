@@ -6,6 +6,7 @@ pub mod Orders
 pub mod Standing
 pub mod Settled
 pub mod OrdersProof
+pub mod Recovery
 pub mod Refused
 pub mod Fifteen
 pub mod Demand3

@@ -105,7 +105,7 @@ module _ (image marks : List ℕ) (s : State) where
     accepted-sound Unknown request good arrays k none = absurd (false≢true k)
 
     -- so every call
-    abbrev Kept : Call → Type 0
+    abbrev pub Kept : Call → Type 0
     Kept call = Sound (ordersAfter call (told image marks call s) orders) (after image marks call s .context)
 
     cut-kept : (i k mask : ℕ) → Kept (EraseCut i k mask)
@@ -121,7 +121,7 @@ module _ (image marks : List ℕ) (s : State) where
         reply-elim reply (s .context) (λ (o : Outcome ReplyAnswer (List ℕ)). Sound (cond (takenTold (Taking (o .told))) (closed (Answered reply) orders) orders) (o .after))
         (λ _. sound) (λ some. sound-reply reply orders (s .context) sound some)
 
-    call-kept : (call : Call) → Kept call
+    pub call-kept : (call : Call) → Kept call
     call-kept (Direct command) = subst (Sound orders) (sym (direct-leaves command)) sound
     call-kept (Erase i) = subst (Sound orders) (sym (erase-leaves i never 0)) sound
     call-kept (EraseCut i k mask) = cut-kept i k mask
@@ -139,7 +139,7 @@ all-kept image marks (call ∷ calls) s orders sound =
     all-kept image marks calls (after image marks call s) (ordersAfter call (told image marks call s) orders) (call-kept image marks s orders sound call)
 
 -- what is kept is the claim
-open-exactly : (context : List ℕ) {orders : List Given} → Standing context orders
+pub open-exactly : (context : List ℕ) {orders : List Given} → Standing context orders
     → (openIn orders ≤ 1) × ((openIn orders ≡ 1 → awaits (cacheOf context) ≡ true) × (awaits (cacheOf context) ≡ true → openIn orders ≡ 1))
 open-exactly context (idle e none z) =
     (omega arith, ((λ q. absurd (omega arith)), λ y. absurd (false≢true (sym (ap not (eq-eqb _ _ e)) ∙ y))))

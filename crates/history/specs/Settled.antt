@@ -67,7 +67,7 @@ module _ (reply : EngineReply) (context : List ℕ) (long : Long context) where
       (λ (n : isAt (cacheOf context) Waiting k ≡ false). not-waiting (cacheOf context) k n (sym (others k m n .kind-is) ∙ e))
       (decided (isAt (cacheOf context) Waiting k))
 
-  none-awaited : cacheOf settledNow .awaited ≡ noReply
+  pub none-awaited : cacheOf settledNow .awaited ≡ noReply
   none-awaited = turned-awaited Waiting kindNow noReply context long
 
 -- a held place was held before, or its load is done

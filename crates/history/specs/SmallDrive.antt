@@ -1,6 +1,6 @@
--- Document 01, "The small drive": cases 1 to 9 in a single table, by computation from the definitions that the entry points' contracts
--- equal. Assumes nothing.
-use Prim.Native.Nat.{ℕ, _-_, _^_}
+-- Document 01, "The small drive": cases 1 to 9 in a single table, and case 10, by computation from the definitions that the entry points'
+-- contracts equal. Assumes nothing.
+use Prim.Native.Nat.{ℕ, zero, suc, _-_, _^_}
 use mathlib.Core.Path.{_≡_, refl}
 use mathlib.Core.Bool.{Bool, true, false}
 use mathlib.Core.List.{List, [], _∷_, _++_, map}
@@ -18,25 +18,27 @@ use Rattle.partition.specs.declared.State.the-variants.{Erased, Torn, Programme
 use Rattle.partition.specs.Partition.{shortAt, marked, zeroCell, stateOf, lowestShort}
 use Rattle.burns.specs.Run.{wordsFrom, order, goesOn, stopsAfter, burnsOf}
 use Rattle.context.specs.State.{State, state}
-use Rattle.cache.specs.Cache.{cacheOf, isAt, emptied}
+use Rattle.cache.specs.Cache.{cacheOf, isAt, placed, turnedBelow, emptied}
 use Rattle.drive.specs.Drive.{wholeArrays, surveyAt, slotAt, openSlot, activeSlot, available}
-use Rattle.engine.specs.declared.Order.the-variants.{Nothing, Clear}
+use Rattle.engine.specs.declared.Order.the-variants.{Nothing, Clear, Load}
+use Rattle.engine.specs.declared.EngineReply.the-variants.{Done}
 use Rattle.engine.specs.Engine.{zeros}
 use Rattle.erasure.specs.declared.Answer.the-variants.{Ended, Cut}
 use Rattle.erasure.specs.Erasure.{runOn, eraseOf}
-use Rattle.codec.specs.declared.Command.the-variants.{Clkc, Fers, Fsta}
+use Rattle.codec.specs.declared.Command.the-variants.{Clkc, Klod, Kunl, Fers, Fsta}
 use Rattle.codec.specs.Fields.{codeOf}
 use Rattle.codec.specs.Request.{requestTests}
 use Rattle.mailbox.specs.declared.Reply.the-variants.{Refused, Accepted}
 use Rattle.mailbox.specs.Mailbox.{doneOf}
-use Rattle.history.specs.Calls.{Call, Erase, EraseCut, Mailbox, Told, Erasing, Replying, told, after, afterAll}
+use Rattle.reply.specs.Reply.{takingOf}
+use Rattle.history.specs.Calls.{Call, Erase, EraseCut, Mailbox, TakeReply, Told, Erasing, Replying, told, after, afterAll}
 
--- "P = 2, C = 12, B = 60, E = 8 .. Cell 0 is 1, all others 0, no stuck marks, cache empty"
+-- "P = 2, C = 12, B = 60, E = 8 .. Cell 0 is 1, all others 0, no stuck marks, cache empty", and no reply awaited
 abbrev small : List ℕ
 small = image 2 12 60 8 [] two
 
 abbrev start : State
-start = state (1 ∷ replicate 11 0) (replicate 32 0)
+start = state (1 ∷ replicate 11 0) (replicate 33 0)
 
 abbrev noMarks : List ℕ
 noMarks = replicate 12 0
@@ -137,3 +139,32 @@ unfolding cases doneOf requestTests mapGood wholeArrays every headerGood fillerG
     stateOf marked shortAt zeroCell countBelow firstFrom onesIn cacheOf isAt emptied runOn eraseOf burnsOf order wordsFrom stopsAfter goesOn burnWord burnCell
     lowestShort
 table = refl
+
+-- ---- case 10, where by request P5 each order is answered done
+
+-- a load and an unload of a tag below 256, with the chksum that follows
+abbrev load : (tag : ℕ) → Call
+load tag = mailbox (codeOf Klod) (bytes4 (0xFFFF_FED6 - tag) ++ bytes4 0 ++ bytes4 0 ++ bytes4 tag ++ bytes4 0 ++ zeros 64)
+
+abbrev unload : (tag : ℕ) → Call
+unload tag = mailbox (codeOf Kunl) (bytes4 (0xFFFF_FEC6 - tag) ++ bytes4 0 ++ bytes4 0 ++ bytes4 tag ++ bytes4 0)
+
+-- loads of the tags 1 to n
+abbrev loads : (n : ℕ) → List Call
+loads zero = []
+loads (suc n) = loads n ++ (load (suc n) ∷ TakeReply Done ∷ [])
+
+-- what a load of a tag tells after others, and that it took a place
+abbrev tells : (before : List Call) (tag : ℕ) → Told
+tells before tag = told small noMarks (load tag) (afterAll small noMarks before start)
+
+abbrev took : (chksum place : ℕ) → Told
+took chksum place = Replying (Accepted 16 (Load place 0)) (bytes4 chksum ++ bytes4 0 ++ bytes4 0 ++ bytes4 place)
+
+-- "Sixteen loads fill places 0 to 15, the seventeenth new tag is 13, a held tag 12; unload place 3's tag, and the next load gets place 3"
+case-10 :
+    tells [] 1 ∷ tells (loads 15) 16 ∷ tells (loads 16) 17 ∷ tells (loads 16) 4 ∷ tells (loads 16 ++ (unload 4 ∷ TakeReply Done ∷ [])) 17 ∷ []
+    ≡ took 0 0 ∷ took 0xFFFF_FFF1 15 ∷ Replying (Refused 13) [] ∷ Replying (Refused 12) [] ∷ took 0xFFFF_FFFD 3 ∷ []
+unfolding doneOf requestTests mapGood wholeArrays every headerGood fillerGood entryGood placeGood allBelow u16At u32At activeSlot openSlot slotAt surveyAt
+    stateOf marked shortAt zeroCell countBelow firstFrom onesIn cacheOf isAt placed turnedBelow takingOf
+case-10 = refl

@@ -136,7 +136,7 @@ record Free (orders : List Given) (context : List ℕ) : Type 0 where
 
 free-by : (orders : List Given) (context : List ℕ) → Standing context orders → busy (cacheOf context) ≡ false → Free orders context
 free-by orders context (idle e none z) o = record { none = none; closed-all = z }
-free-by _ context (awaited order before e waits z) o = absurd (busy-not order waits (e′ ∙ e) )
+free-by _ context (awaited order before e waits z) o = absurd (busy-not order waits (e′ ∙ e))
   where
     e′ : noReply ≡ cacheOf context .awaited
     e′ = sym (none-by context (neither (awaits (cacheOf context)) (hasPlace (cacheOf context) Waiting) o .0))

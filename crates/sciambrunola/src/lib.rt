@@ -189,8 +189,5 @@ pub extern "C" fn sci_mailbox(
 pub extern "C" fn sci_engine_reply(context: &mut Context, number: u32, vendor: u32) -> u32
     ensures { λ r. ⌜ outcome r (now (context .exit)) ≡ telling takenNumber (takingOf (engineReply number vendor) (now (context .entry))) ⌝ }
 {
-    replies::flat_taken(reply::take_reply(
-        context,
-        replies::reply_of(number, vendor),
-    ))
+    replies::flat_taken(reply::take_reply(context, replies::reply_of(number, vendor)))
 }

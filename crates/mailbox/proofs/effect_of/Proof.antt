@@ -27,7 +27,7 @@ same-length : tie.Need-same-length
 same-length c = search needs
 
 returns : tie.Need-returns
-returns c = 
+returns c =
     let ready = c .before .before in
     let a = ready .before .before .before .before .before .before .before .before .args in
     ap (λ (e : Effect). outcome e (a .cells .now)) (c .refuse2 .ensures)
@@ -46,7 +46,7 @@ same-length-2 : tie.Need-same-length-2
 same-length-2 c = search needs
 
 returns-2 : tie.Need-returns-2
-returns-2 c = 
+returns-2 c =
     let request = c .before .before in
     let ready = request .before .before .before in
     let a = ready .before .before .before .before .before .before .before .before .args in
@@ -55,7 +55,7 @@ returns-2 c =
     _ (request .before .command-of .ensures) _ (request .request-refusal .ensures) (c .before .if2 .taken)
 
 own-refusal-requires : tie.Need-own-refusal-requires
-own-refusal-requires c κs = 
+own-refusal-requires c κs =
     let ready = c .before .before .before .before .before in
     judged _ _ _ _ (sym (ready .enum-told .given .1) ∙ ready .before .before .check-drive .ensures) .whole
 
@@ -66,7 +66,7 @@ same-length-3 : tie.Need-same-length-3
 same-length-3 c = search needs
 
 returns-3 : tie.Need-returns-3
-returns-3 c = 
+returns-3 c =
     let own = c .before .before in
     let request = own .before .before .before in
     let ready = request .before .before .before in
@@ -76,7 +76,7 @@ returns-3 c =
     _ (request .before .command-of .ensures) (sym (own .before .before .if2 .left) ∙ request .request-refusal .ensures) _ (own .own-refusal .ensures) (c .before .if3 .taken)
 
 carry-out-requires : tie.Need-carry-out-requires
-carry-out-requires c κs = 
+carry-out-requires c κs =
     let own = c .before .before in
     let request = own .before .before .before in
     let ready = request .before .before .before in
@@ -91,7 +91,7 @@ same-length-4 : tie.Need-same-length-4
 same-length-4 c = search needs
 
 returns-4 : tie.Need-returns-4
-returns-4 c = 
+returns-4 c =
     let told = c .before .before in
     let checked = told .before .before in
     let a = checked .before .before .before .before .before .before .args in
@@ -102,7 +102,7 @@ same-length-5 : tie.Need-same-length-5
 same-length-5 c = search needs
 
 returns-5 : tie.Need-returns-5
-returns-5 c = 
+returns-5 c =
     let own = c .before .before .before .before .before in
     let request = own .before .before .before in
     let ready = request .before .before .before in
