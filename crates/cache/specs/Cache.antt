@@ -134,13 +134,9 @@ turnedBelow sought kind (suc n) context = turnedAt sought kind n (turnedBelow so
 abbrev pub awaiting : (reply : ℕ) (context : List ℕ) → List ℕ
 awaiting reply context = set context awaitedAt reply
 
--- "A load's place waits": place k, with the tag; which place a load takes is `mailbox` `loadOf`
-abbrev pub loading : (k tag : ℕ) (context : List ℕ) → List ℕ
-loading k tag context = awaiting loadReply (placed k waiting tag context)
-
--- "The place of an unload .. waits until the reply": place k, which has the tag; which place that is is `mailbox` `unloadOf`
-abbrev pub unloading : (k tag : ℕ) (context : List ℕ) → List ℕ
-unloading k tag context = awaiting unloadReply (placed k waiting tag context)
+-- "A load's place waits"; "The place of an unload .. waits until the reply": place k waits with the tag, and this reply is awaited
+abbrev pub waitingAt : (k tag reply : ℕ) (context : List ℕ) → List ℕ
+waitingAt k tag reply context = awaiting reply (placed k waiting tag context)
 
 -- "and every held or unsure place under a clear, waits until the reply": every occupied one, since a waiting one waits already
 abbrev pub clearing : (context : List ℕ) → List ℕ

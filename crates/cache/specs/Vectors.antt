@@ -5,7 +5,7 @@ use mathlib.Core.Bool.{true, false}
 use mathlib.Core.List.{List, [], _∷_, _++_, map}
 use lib.ListN.{replicate}
 use Rattle.laws.specs.Below.{firstFrom}
-use Rattle.cache.specs.Cache.{cacheOf, isAt, lowestPlace, hasPlace, busy, placeAt, placed, turnedBelow, loading, unloading, clearing, settled, emptied, held, empty, unsure}
+use Rattle.cache.specs.Cache.{cacheOf, isAt, lowestPlace, hasPlace, busy, placeAt, placed, turnedBelow, waitingAt, clearing, settled, emptied, held, empty, unsure}
 use Rattle.cache.specs.declared.Place.the-variants.{Empty as EmptyPlace, Waiting as WaitingPlace, Held as HeldPlace, Unsure as UnsurePlace}
 use Rattle.cache.specs.declared.Sought.the-variants.{Empty, Occupied, Waiting, Unsure, Tag}
 
@@ -29,11 +29,11 @@ unfolding cacheOf isAt firstFrom
 has = refl
 
 -- a load, an unload and a clear wait, each for its reply
-load : loading 1 6 some ≡ with (1 ∷ 2 ∷ 3 ∷ 1 ∷ []) (7 ∷ 6 ∷ 8 ∷ 8 ∷ []) 2
+load : waitingAt 1 6 2 some ≡ with (1 ∷ 2 ∷ 3 ∷ 1 ∷ []) (7 ∷ 6 ∷ 8 ∷ 8 ∷ []) 2
 unfolding placed
 load = refl
 
-unload : unloading 0 7 some ≡ with (2 ∷ 0 ∷ 3 ∷ 1 ∷ []) (7 ∷ 9 ∷ 8 ∷ 8 ∷ []) 3
+unload : waitingAt 0 7 3 some ≡ with (2 ∷ 0 ∷ 3 ∷ 1 ∷ []) (7 ∷ 9 ∷ 8 ∷ 8 ∷ []) 3
 unfolding placed
 unload = refl
 
@@ -43,7 +43,7 @@ clear = refl
 
 -- their replies: a load's done, a clear's done, and any other
 replies :
-    settled held (loading 1 6 some) ∷ settled empty (clearing some) ∷ settled unsure (unloading 0 7 some) ∷ []
+    settled held (waitingAt 1 6 2 some) ∷ settled empty (clearing some) ∷ settled unsure (waitingAt 0 7 3 some) ∷ []
     ≡ with (1 ∷ 1 ∷ 3 ∷ 1 ∷ []) (7 ∷ 6 ∷ 8 ∷ 8 ∷ []) 0
     ∷ with (0 ∷ 0 ∷ 0 ∷ 0 ∷ []) (0 ∷ 9 ∷ 0 ∷ 0 ∷ []) 0
     ∷ with (3 ∷ 0 ∷ 3 ∷ 1 ∷ []) (7 ∷ 9 ∷ 8 ∷ 8 ∷ []) 0

@@ -9,7 +9,7 @@ ghost use mathlib.Core.Path.{_≡_};
 ghost use mathlib.Core.List.{_++_};
 ghost use Prim.Native.Nat.{_<_, _≤_};
 ghost use lib.ListN.{length, drop, replicate};
-ghost use Rattle.cache.specs.Cache.{cacheOf, isAt, kindIs, lowestPlace, hasPlace, busy, placeBy, placeAt, placed, keptTag, turnedAt, turnedBelow, loading, unloading, clearing, settled, emptied};
+ghost use Rattle.cache.specs.Cache.{cacheOf, isAt, kindIs, lowestPlace, hasPlace, busy, placeBy, placeAt, placed, keptTag, turnedAt, turnedBelow, waitingAt, clearing, settled, emptied};
 
 // The places. A search that finds none answers their number.
 pub const PLACES: u32 = 16;
@@ -179,20 +179,12 @@ fn turn_places(context: &mut Context, sought: Sought, kind: u64)
     }
 }
 
-// Place `k` waits with a tag for the reply to its load.
-pub fn wait_for_load(context: &mut Context, k: u32, tag: u64)
-    ensures { λ _. ⌜ now (context .exit) ≡ loading k tag (now (context .entry)) ⌝ }
+// Place `k` waits with a tag for this reply, which is awaited: to its load or its unload.
+pub fn wait_at(context: &mut Context, k: u32, tag: u64, reply: u64)
+    ensures { λ _. ⌜ now (context .exit) ≡ waitingAt k tag reply (now (context .entry)) ⌝ }
 {
     put_place(context, k, WAITING, tag);
-    context[context::AWAITED] = LOAD_REPLY;
-}
-
-// Place `k`, which has the tag, waits for the reply to its unload.
-pub fn wait_for_unload(context: &mut Context, k: u32, tag: u64)
-    ensures { λ _. ⌜ now (context .exit) ≡ unloading k tag (now (context .entry)) ⌝ }
-{
-    put_place(context, k, WAITING, tag);
-    context[context::AWAITED] = UNLOAD_REPLY;
+    context[context::AWAITED] = reply;
 }
 
 // Every place that is not empty waits for the reply to a clear.

@@ -11,7 +11,7 @@ use borrow.Author.Tests.{eqb-true, eqb-false, eq-eqb, ne-eqb, not-false}
 use Rattle.laws.specs.Tests.{decided, and, neither, cond-keeps}
 use Rattle.laws.specs.Below.{tally}
 use Rattle.cache.specs.Cache.{cacheOf, places, empty, held, waiting, unsure, noReply, clearReply, loadReply, unloadReply, kindIn, tagIn, isAt, hasPlace}
-use Rattle.cache.specs.Cache.{awaits, busy, keptTag, placed, awaiting, loading, unloading, clearing, emptied}
+use Rattle.cache.specs.Cache.{awaits, busy, keptTag, placed, awaiting, waitingAt, clearing, emptied}
 use Rattle.cache.specs.declared.Sought.the-variants.{Occupied, Waiting, Tag}
 use Rattle.cache.specs.Laws.{has-none, emptied-rest}
 use Rattle.cache.specs.After.{Long, Is, is-occupied, not-occupied, is-waiting, not-waiting, has-tag, tag-at, turned-sought, turned-other, turned-awaited, turned-long}
@@ -214,12 +214,12 @@ module _ (orders : List Given) (context : List ℕ) (sound : Sound orders contex
 
   -- a load, of a tag that no place has
   pub sound-load : (place timeout tag : ℕ) → place < places → hasPlace (cacheOf context) (Tag tag) ≡ false
-      → Sound (given (Load place timeout) Open ∷ orders) (loading place tag context)
+      → Sound (given (Load place timeout) Open ∷ orders) (waitingAt place tag loadReply context)
   sound-load place timeout tag l new = place-sound loadReply place tag l (Load place timeout) (λ k. refl) refl (λ w. w) (fresh-apart loadReply place tag l new)
 
   -- an unload, of the place that has the tag
   pub sound-unload : (place timeout tag : ℕ) → place < places → isAt (cacheOf context) (Tag tag) place ≡ true
-      → Sound (given (Unload place timeout) Open ∷ orders) (unloading place tag context)
+      → Sound (given (Unload place timeout) Open ∷ orders) (waitingAt place tag unloadReply context)
   sound-unload place timeout tag l has = place-sound unloadReply place tag l (Unload place timeout) (λ k. refl) refl (λ w. w) (had-apart unloadReply place tag l has)
 
   -- ---- a clear: every place that is not empty waits

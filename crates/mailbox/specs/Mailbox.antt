@@ -9,7 +9,7 @@ use Rattle.laws.specs.Refusals.{firstOf}
 use Rattle.context.specs.State.{State, withCells, withContext, Outcome, outcome, refusing, telling}
 use Rattle.drive.specs.Drive.{Whole, driveTests, activeSlot, slotNumber, available}
 use Rattle.drive.specs.declared.ActiveSlot.{ActiveSlot}
-use Rattle.cache.specs.Cache.{cacheOf, lowestPlace, hasPlace, busy, loading, unloading, clearing}
+use Rattle.cache.specs.Cache.{cacheOf, lowestPlace, hasPlace, busy, loadReply, unloadReply, waitingAt, clearing}
 use Rattle.cache.specs.declared.Sought.the-variants.{Empty, Unsure, Tag}
 use Rattle.erasure.specs.declared.Answer.{Answer}
 use Rattle.erasure.specs.declared.Answer.the-variants.{Ended, Cut, Refused as NotErased}
@@ -157,8 +157,8 @@ doneOf image marks code request room block s =
 abbrev pub contextBy : Order → (tag : ℕ) (context : List ℕ) → List ℕ
 contextBy Nothing tag context = context
 contextBy (Clear timeout) tag context = clearing context
-contextBy (Load place timeout) tag context = loading place tag context
-contextBy (Unload place timeout) tag context = unloading place tag context
+contextBy (Load place timeout) tag context = waitingAt place tag loadReply context
+contextBy (Unload place timeout) tag context = waitingAt place tag unloadReply context
 
 -- the context
 abbrev pub contextAfter : Effect → (context : List ℕ) → List ℕ

@@ -163,12 +163,10 @@ fn carry_out(
         Command::Clkc => clear_effect(request),
         Command::Klod => load_effect(context, request),
         Command::Kunl => unload_effect(context, request),
-        Command::Fers => fers_effect(erasure::erase_judged(
-            image,
-            cells,
-            marks,
-            codec::partition_of(request),
-        )),
+        Command::Fers => {
+            let partition = codec::partition_of(request);
+            fers_effect(erasure::erase_judged(image, cells, marks, partition))
+        }
         Command::Fsta => status_effect(image, cells),
         Command::Unknown => refuse(3),
     }
@@ -217,8 +215,12 @@ fn update_context(context: &mut Context, effect: Effect)
     match order {
         Order::Nothing => (),
         Order::Clear { timeout: _ } => cache::wait_for_clear(context),
-        Order::Load { place, timeout: _ } => cache::wait_for_load(context, place, effect.tag),
-        Order::Unload { place, timeout: _ } => cache::wait_for_unload(context, place, effect.tag),
+        Order::Load { place, timeout: _ } => {
+            cache::wait_at(context, place, effect.tag, cache::LOAD_REPLY)
+        }
+        Order::Unload { place, timeout: _ } => {
+            cache::wait_at(context, place, effect.tag, cache::UNLOAD_REPLY)
+        }
     }
 }
 

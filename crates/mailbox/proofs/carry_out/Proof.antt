@@ -1,4 +1,6 @@
 -- `mailbox::carry_out` meets its contract: by the command. Assumes nothing.
+use mathlib.Core.Path.{sym, subst}
+use Rattle.erasure.specs.Erasure.{Erasable}
 use Rattle.mailbox.specs.Laws.{fers-does}
 use borrow.Author.Needs.{needs}
 use Rattle.mailbox.proofs.carry_out.Statement.{statement}
@@ -29,7 +31,11 @@ partition-of-requires : tie.Need-partition-of-requires
 partition-of-requires c κs = search needs
 
 erase-judged-requires : tie.Need-erase-judged-requires
-erase-judged-requires c κs = let start = c .before .before .before .before .before .before .before .before in rw (c .partition-of .ensures) (start .pre .erasable (c .before .before .enum-told4 .given .1))
+erase-judged-requires c κs =
+    let named = c .before in
+    let start = named .before .before .before .before .before .before .before in
+    subst (Erasable (start .args .image .now) (start .args .cells .now) (start .args .marks .now)) (sym (named .partition-of .ensures))
+    (start .pre .erasable (named .before .enum-told4 .given .1))
 
 fers-effect-requires : tie.Need-fers-effect-requires
 fers-effect-requires c κs = search needs
@@ -59,7 +65,10 @@ same-length : tie.Need-same-length
 same-length c = search needs
 
 returns-4 : tie.Need-returns-4
-returns-4 c = let erased = c .before .before .before in let named = erased .before in rw (named .before .before .enum-told4 .given .1, ← named .partition-of .ensures) (fers-does (erased .erase-judged .ensures) (c .fers-effect .ensures))
+returns-4 c =
+    let erased = c .before .before .before in
+    let named = erased .before .before in
+    rw (named .before .enum-told4 .given .1, ← named .partition-of .ensures) (fers-does (erased .erase-judged .ensures) (c .fers-effect .ensures))
 
 same-length-2 : tie.Need-same-length-2
 same-length-2 c = search needs

@@ -15,14 +15,14 @@ wait-for-clear-requires c κs = search needs
 enum-known-order : tie.Need-enum-known-order
 enum-known-order c = search needs
 
-wait-for-load-requires : tie.Need-wait-for-load-requires
-wait-for-load-requires c κs = search needs
+wait-at-requires : tie.Need-wait-at-requires
+wait-at-requires c κs = search needs
 
 enum-known-order-2 : tie.Need-enum-known-order-2
 enum-known-order-2 c = search needs
 
-wait-for-unload-requires : tie.Need-wait-for-unload-requires
-wait-for-unload-requires c κs = search needs
+wait-at-requires-2 : tie.Need-wait-at-requires-2
+wait-at-requires-2 c κs = search needs
 
 returns : tie.Need-returns
 returns c = search needs
@@ -31,10 +31,10 @@ returns-2 : tie.Need-returns-2
 returns-2 c = rw (c .before .before .enum-told2 .given .1) (c .wait-for-clear .ensures)
 
 returns-3 : tie.Need-returns-3
-returns-3 c = rw (c .before .before .before .order .given .1) (c .wait-for-load .ensures)
+returns-3 c = rw (c .before .before .before .order .given .1) (c .wait-at .ensures)
 
 returns-4 : tie.Need-returns-4
-returns-4 c = rw (c .before .before .before .order2 .given .1) (c .wait-for-unload .ensures)
+returns-4 c = rw (c .before .before .before .order2 .given .1) (c .wait-at2 .ensures)
 
 pub update-context-spec : {M : Type 1} → statement M
 update-context-spec =
@@ -44,9 +44,9 @@ update-context-spec =
     enum-told-2
     wait-for-clear-requires
     enum-known-order
-    wait-for-load-requires
+    wait-at-requires
     enum-known-order-2
-    wait-for-unload-requires
+    wait-at-requires-2
     returns
     returns-2
     returns-3
