@@ -15,8 +15,10 @@ use Rattle.laws.specs.Tests.{and, cond-keeps}
 use Rattle.context.specs.Context.{kindsAt, tagsAt, awaitedAt}
 use Rattle.cache.specs.declared.Sought.{Sought}
 use Rattle.cache.specs.declared.Sought.the-variants.{Occupied, Waiting, Tag}
+use Rattle.cache.specs.declared.Place.{Place}
 use Rattle.cache.specs.declared.Place.the-variants.{Empty as EmptyPlace, Waiting as WaitingPlace, Held as HeldPlace, Unsure as UnsurePlace}
-use Rattle.cache.specs.Cache.{Cache, cacheOf, places, empty, held, waiting, kindIn, tagIn, kindIs, isAt, placeAt, cacheWords, placed, keptTag, turnedAt, turnedBelow, awaiting, emptied}
+use Rattle.cache.specs.Cache.{Cache, cacheOf, places, empty, held, waiting, unsure, kindIn, tagIn, kindIs, isAt, placeAt}
+use Rattle.cache.specs.Cache.{cacheWords, placed, keptTag, turnedAt, turnedBelow, awaiting, emptied}
 use Rattle.cache.specs.Laws.{kind-read, tag-read, awaited-read, placed-in, has-none, emptied-rest}
 
 -- the words of the cache are there
@@ -235,26 +237,28 @@ emptied-kind context j m = not-occupied (cacheOf (emptied context)) j (has-none 
 
 -- ---- what a place reads as, and its kind
 
-pub place-held : (c : Cache) (k tag : ℕ) → placeAt c k ≡ HeldPlace tag → (k < places) × (kindIn c k ≡ held)
-place-held c k tag = by (ltb k places) (eqb (kindIn c k) empty) (eqb (kindIn c k) held) (eqb (kindIn c k) waiting) refl refl
+-- the number of what is read, a kind that we never write as unsure
+abbrev readKind : Place → ℕ
+readKind EmptyPlace = empty
+readKind (HeldPlace tag) = held
+readKind (WaitingPlace tag) = waiting
+readKind (UnsurePlace tag) = unsure
+
+-- what reads as held or as waiting is a place of that kind
+read-tells : (c : Cache) (k kind : ℕ) → 1 ≤ kind → kind ≤ 2 → readKind (placeAt c k) ≡ kind → (k < places) × (kindIn c k ≡ kind)
+read-tells c k kind low high = by (ltb k places) (eqb (kindIn c k) empty) (eqb (kindIn c k) held) (eqb (kindIn c k) waiting) refl refl refl
   where
-    by : (there e h w : Bool) → ltb k places ≡ there → eqb (kindIn c k) held ≡ h
-        → cond there (cond e EmptyPlace (cond h (HeldPlace (tagIn c k)) (cond w (WaitingPlace (tagIn c k)) (UnsurePlace (tagIn c k))))) EmptyPlace ≡ HeldPlace tag
-        → (k < places) × (kindIn c k ≡ held)
-    by true false true w t h q = (ltb-true _ _ t, eqb-true _ _ h)
-    by false e h w t _ q = let z : _≡_ {A = ℕ} 0 1 = cc in absurd (omega arith)
-    by true true h w t _ q = let z : _≡_ {A = ℕ} 0 1 = cc in absurd (omega arith)
-    by true false false true t _ q = let z : _≡_ {A = ℕ} 0 1 = cc in absurd (omega arith)
-    by true false false false t _ q = let z : _≡_ {A = ℕ} 0 1 = cc in absurd (omega arith)
+    by : (there e h w : Bool) → ltb k places ≡ there → eqb (kindIn c k) held ≡ h → eqb (kindIn c k) waiting ≡ w
+        → readKind (cond there (cond e EmptyPlace (cond h (HeldPlace (tagIn c k)) (cond w (WaitingPlace (tagIn c k)) (UnsurePlace (tagIn c k))))) EmptyPlace) ≡ kind
+        → (k < places) × (kindIn c k ≡ kind)
+    by false e h w t y z q = absurd (omega arith)
+    by true true h w t y z q = absurd (omega arith)
+    by true false true w t y z q = (ltb-true _ _ t, eqb-true _ _ y ∙ q)
+    by true false false true t y z q = (ltb-true _ _ t, eqb-true _ _ z ∙ q)
+    by true false false false t y z q = absurd (omega arith)
+
+pub place-held : (c : Cache) (k tag : ℕ) → placeAt c k ≡ HeldPlace tag → (k < places) × (kindIn c k ≡ held)
+place-held c k tag e = read-tells c k held (omega arith) (omega arith) (ap readKind e)
 
 pub place-waiting : (c : Cache) (k tag : ℕ) → placeAt c k ≡ WaitingPlace tag → (k < places) × (kindIn c k ≡ waiting)
-place-waiting c k tag = by (ltb k places) (eqb (kindIn c k) empty) (eqb (kindIn c k) held) (eqb (kindIn c k) waiting) refl refl
-  where
-    by : (there e h w : Bool) → ltb k places ≡ there → eqb (kindIn c k) waiting ≡ w
-        → cond there (cond e EmptyPlace (cond h (HeldPlace (tagIn c k)) (cond w (WaitingPlace (tagIn c k)) (UnsurePlace (tagIn c k))))) EmptyPlace ≡ WaitingPlace tag
-        → (k < places) × (kindIn c k ≡ waiting)
-    by true false false true t w q = (ltb-true _ _ t, eqb-true _ _ w)
-    by false e h w t _ q = let z : _≡_ {A = ℕ} 0 1 = cc in absurd (omega arith)
-    by true true h w t _ q = let z : _≡_ {A = ℕ} 0 1 = cc in absurd (omega arith)
-    by true false true w t _ q = let z : _≡_ {A = ℕ} 0 1 = cc in absurd (omega arith)
-    by true false false false t _ q = let z : _≡_ {A = ℕ} 0 1 = cc in absurd (omega arith)
+place-waiting c k tag e = read-tells c k waiting (omega arith) (omega arith) (ap readKind e)
