@@ -45,10 +45,6 @@ module _ (c : Cache) (k : ℕ) where
   unfolding isAt
   not-occupied o = eqb-true _ _ (not-false _ o)
 
-  pub occupied-at : (kindIn c k ≡ empty → ⊥) → isAt c Occupied k ≡ true
-  unfolding isAt
-  occupied-at o = ap not (ne-eqb _ _ o)
-
   pub is-waiting : isAt c Waiting k ≡ true → kindIn c k ≡ waiting
   unfolding isAt
   is-waiting y = eqb-true _ _ y
@@ -68,7 +64,7 @@ module _ (c : Cache) (k : ℕ) where
 -- ---- a place that is set
 
 module _ (context : List ℕ) (long : Long context) (k kind tag : ℕ) (l : k < places) where
-  pub placed-here : Is (placed k kind tag context) k kind tag
+  placed-here : Is (placed k kind tag context) k kind tag
   placed-here =
       rw (← placed-in context k kind tag l)
       (is-at (set (set context (kindsAt + k) kind) (tagsAt + k) tag) k kind tag l
@@ -76,7 +72,7 @@ module _ (context : List ℕ) (long : Long context) (k kind tag : ℕ) (l : k < 
       ∙ getD-set-same context (kindsAt + k) kind 0 (omega arith))
       (getD-set-same (set context (kindsAt + k) kind) (tagsAt + k) tag 0 (rw (length-set context (kindsAt + k) kind) (omega arith))))
 
-  pub placed-there : (j : ℕ) → j < places → (j ≡ k → ⊥) → Is (placed k kind tag context) j (kindIn (cacheOf context) j) (tagIn (cacheOf context) j)
+  placed-there : (j : ℕ) → j < places → (j ≡ k → ⊥) → Is (placed k kind tag context) j (kindIn (cacheOf context) j) (tagIn (cacheOf context) j)
   placed-there j m o =
       rw (← placed-in context k kind tag l)
       (is-at (set (set context (kindsAt + k) kind) (tagsAt + k) tag) j (kindIn (cacheOf context) j) (tagIn (cacheOf context) j) m
@@ -85,14 +81,14 @@ module _ (context : List ℕ) (long : Long context) (k kind tag : ℕ) (l : k < 
       (getD-set-other (set context (kindsAt + k) kind) (tagsAt + k) (tagsAt + j) tag 0 (λ e. o (omega arith))
       ∙ getD-set-other context (kindsAt + k) (tagsAt + j) kind 0 (λ e. omega arith) ∙ tag-read context j m))
 
-  pub placed-awaited : cacheOf (placed k kind tag context) .awaited ≡ cacheOf context .awaited
+  placed-awaited : cacheOf (placed k kind tag context) .awaited ≡ cacheOf context .awaited
   placed-awaited =
       rw (← placed-in context k kind tag l)
       (sym (awaited-read (set (set context (kindsAt + k) kind) (tagsAt + k) tag))
       ∙ getD-set-other (set context (kindsAt + k) kind) (tagsAt + k) awaitedAt tag 0 (λ e. omega arith)
       ∙ getD-set-other context (kindsAt + k) awaitedAt kind 0 (λ e. omega arith) ∙ awaited-read context)
 
-  pub placed-long : Long (placed k kind tag context)
+  placed-long : Long (placed k kind tag context)
   placed-long = rw (← placed-in context k kind tag l, length-set (set context (kindsAt + k) kind) (tagsAt + k) tag, length-set context (kindsAt + k) kind) long
 
 -- ---- places that are turned
@@ -162,16 +158,16 @@ turned-to sought kind (suc n) context long l =
 -- ---- the awaited reply
 
 module _ (reply : ℕ) (context : List ℕ) where
-  pub awaiting-place : (j : ℕ) → j < places → Is (awaiting reply context) j (kindIn (cacheOf context) j) (tagIn (cacheOf context) j)
+  awaiting-place : (j : ℕ) → j < places → Is (awaiting reply context) j (kindIn (cacheOf context) j) (tagIn (cacheOf context) j)
   awaiting-place j m =
       is-at (awaiting reply context) j (kindIn (cacheOf context) j) (tagIn (cacheOf context) j) m
       (getD-set-other context awaitedAt (kindsAt + j) reply 0 (λ e. omega arith) ∙ kind-read context j m)
       (getD-set-other context awaitedAt (tagsAt + j) reply 0 (λ e. omega arith) ∙ tag-read context j m)
 
-  pub awaiting-is : Long context → cacheOf (awaiting reply context) .awaited ≡ reply
+  awaiting-is : Long context → cacheOf (awaiting reply context) .awaited ≡ reply
   awaiting-is long = sym (awaited-read (awaiting reply context)) ∙ getD-set-same context awaitedAt reply 0 (omega arith)
 
-  pub awaiting-long : Long context → Long (awaiting reply context)
+  awaiting-long : Long context → Long (awaiting reply context)
   awaiting-long long = rw (length-set context awaitedAt reply) long
 
 -- ---- a turn of all places, with the reply that is then awaited

@@ -2,7 +2,7 @@
 -- occupied afterwards. Assumes nothing.
 use Prim.Native.Nat.{ℕ, zero, suc, _+_, _≤_, _<_}
 use mathlib.Core.Path.{_≡_, refl, sym, ap, ap₂, subst, _∙_}
-use mathlib.Core.Logic.{⊎-elim, inl, inr}
+use mathlib.Core.Logic.{⊎-elim, inr}
 use mathlib.Core.Bool.{Bool, true, false, cond, not, _&&_, false≢true}
 use mathlib.Core.List.{List, _++_}
 use native.Mathlib.Omega.{arith}
@@ -14,7 +14,7 @@ use borrow.Author.Tests.{lt-ltb, le-ltb, ltb-true, eqb-true, ne-eqb}
 use Rattle.laws.specs.Tests.{decided, lt-or-le, and, not-yes, cond-keeps}
 use Rattle.laws.specs.Below.{firstFrom, first-tells, first-least}
 use Rattle.context.specs.Context.{kindsAt, tagsAt, awaitedAt}
-use Rattle.context.specs.Laws.{part-at, store-in, store-apart}
+use Rattle.context.specs.Laws.{part-at, store-apart}
 use Rattle.cache.specs.declared.Sought.{Sought}
 use Rattle.cache.specs.declared.Sought.the-variants.{Occupied, Waiting, Tag}
 use Rattle.cache.specs.declared.Place.the-variants.{Empty as EmptyPlace}
@@ -86,7 +86,7 @@ unfolding turnedBelow
 turn-next sought kind k before e f = f ∙ rw (add-one k, e)
 
 -- a turn over places none of which is sought changes nothing
-pub turn-none : (sought : Sought) (kind n : ℕ) (context : List ℕ) → ((k : ℕ) → k < n → isAt (cacheOf context) sought k ≡ false) → turnedBelow sought kind n context ≡ context
+turn-none : (sought : Sought) (kind n : ℕ) (context : List ℕ) → ((k : ℕ) → k < n → isAt (cacheOf context) sought k ≡ false) → turnedBelow sought kind n context ≡ context
 unfolding turnedBelow
 turn-none sought kind zero context none = refl
 turn-none sought kind (suc n) context none =
@@ -107,7 +107,7 @@ turned-behind sought kind (suc n) context =
 
 module _ (reply : ℕ) (context : List ℕ) where
   -- the places stay, and the words behind the cache
-  pub awaiting-at : (sought : Sought) (k : ℕ) → isAt (cacheOf (awaiting reply context)) sought k ≡ isAt (cacheOf context) sought k
+  awaiting-at : (sought : Sought) (k : ℕ) → isAt (cacheOf (awaiting reply context)) sought k ≡ isAt (cacheOf context) sought k
   unfolding cacheOf isAt
   awaiting-at sought k =
       rw (store-apart kindsAt places context awaitedAt reply (inr (omega arith)), store-apart tagsAt places context awaitedAt reply (inr (omega arith)))

@@ -5,7 +5,7 @@ use mathlib.Core.Logic.{_⊎_, ⊎-elim}
 use mathlib.Core.List.{List}
 use native.Mathlib.Omega.{arith}
 use lib.ListN.{take, drop, set, getD}
-use lib.Seq.{getD-take, getD-drop, take-set-lt, take-set-le, drop-set-add, drop-set-lt}
+use lib.Seq.{getD-take, getD-drop, take-set-le, drop-set-add, drop-set-lt}
 use Rattle.context.specs.Context.{part}
 
 module _ (first n : ℕ) (context : List ℕ) where
@@ -13,11 +13,7 @@ module _ (first n : ℕ) (context : List ℕ) where
   pub part-at : (k : ℕ) → k < n → getD (part first n context) k 0 ≡ getD context (first + k) 0
   part-at k l = getD-take n (drop first context) k 0 l ∙ getD-drop first context k 0
 
-  -- a store into the part is one at its place there
-  pub store-in : (k v : ℕ) → k < n → part first n (set context (first + k) v) ≡ set (part first n context) k v
-  store-in k v l = ap (take n) (drop-set-add first context k v) ∙ take-set-lt n (drop first context) k v l
-
-  -- and any other leaves it
+  -- a store outside the part leaves it
   pub store-apart : (i v : ℕ) → (i < first) ⊎ (first + n ≤ i) → part first n (set context i v) ≡ part first n context
   store-apart i v o =
       ⊎-elim

@@ -31,11 +31,11 @@ abbrev pub replied : EngineReply → (context : List ℕ) → List ℕ
 replied reply context = settled (kindAfter reply (cacheOf context .awaited)) context
 
 -- 19 "a reply when none is awaited"
-abbrev pub replyTests : (context : List ℕ) → List (Bool × ℕ)
-replyTests context =
+abbrev pub takingTests : (context : List ℕ) → List (Bool × ℕ)
+takingTests context =
     (not (awaits (cacheOf context)), 19)
     ∷ []
 
 -- the engine's reply
 unfoldable pub takingOf : EngineReply → (context : List ℕ) → Outcome Answer (List ℕ)
-takingOf reply context = firstOf (refusing Refused context) (replyTests context) (outcome Taken (replied reply context))
+takingOf reply context = firstOf (refusing Refused context) (takingTests context) (outcome Taken (replied reply context))
