@@ -189,7 +189,8 @@ module _ (sought : Sought) (kind reply : ℕ) (context : List ℕ) (long : Long 
   pub turned-sought : (j : ℕ) → j < places → isAt (cacheOf context) sought j ≡ true → Is (awaiting reply turned) j kind (keptTag kind (tagIn (cacheOf context) j))
   turned-sought j m y = rw y at (turned-place j m)
 
-  pub turned-other : (j : ℕ) → j < places → isAt (cacheOf context) sought j ≡ false → Is (awaiting reply turned) j (kindIn (cacheOf context) j) (tagIn (cacheOf context) j)
+  pub turned-other : (j : ℕ) → j < places → isAt (cacheOf context) sought j ≡ false
+      → Is (awaiting reply turned) j (kindIn (cacheOf context) j) (tagIn (cacheOf context) j)
   turned-other j m o = rw o at (turned-place j m)
 
   pub turned-awaited : cacheOf (awaiting reply turned) .awaited ≡ reply

@@ -86,7 +86,8 @@ unfolding turnedBelow
 turn-next sought kind k before e f = f ∙ rw (add-one k, e)
 
 -- a turn over places none of which is sought changes nothing
-turn-none : (sought : Sought) (kind n : ℕ) (context : List ℕ) → ((k : ℕ) → k < n → isAt (cacheOf context) sought k ≡ false) → turnedBelow sought kind n context ≡ context
+turn-none : (sought : Sought) (kind n : ℕ) (context : List ℕ) → ((k : ℕ) → k < n → isAt (cacheOf context) sought k ≡ false)
+    → turnedBelow sought kind n context ≡ context
 unfolding turnedBelow
 turn-none sought kind zero context none = refl
 turn-none sought kind (suc n) context none =

@@ -5,7 +5,8 @@ use mathlib.Core.Bool.{true, false}
 use mathlib.Core.List.{List, [], _∷_, _++_, map}
 use lib.ListN.{replicate}
 use Rattle.laws.specs.Below.{firstFrom}
-use Rattle.cache.specs.Cache.{cacheOf, isAt, lowestPlace, hasPlace, busy, placeAt, placed, turnedBelow, waitingAt, clearing, settled, emptied, held, empty, unsure}
+use Rattle.cache.specs.Cache.{empty, held, unsure, cacheOf, isAt, lowestPlace, hasPlace, busy, placeAt}
+use Rattle.cache.specs.Cache.{placed, turnedBelow, waitingAt, clearing, settled, emptied}
 use Rattle.cache.specs.declared.Place.the-variants.{Empty as EmptyPlace, Waiting as WaitingPlace, Held as HeldPlace, Unsure as UnsurePlace}
 use Rattle.cache.specs.declared.Sought.the-variants.{Empty, Occupied, Waiting, Unsure, Tag}
 

@@ -139,7 +139,8 @@ module _ (image marks : List ℕ) (s : State) (safe : Safe image s) where
   accepted-safe Clkc request good arrays k none = λ h. safe (clearing-occupied (s .context) h)
   accepted-safe Klod request good arrays k none = λ _. not-false _ (none 0)
   accepted-safe Kunl request good arrays k none =
-      λ _. safe (has-occupied (cacheOf (s .context)) (Tag (tagAt (requestFields Kunl) request)) (tag-occupies (tagAt (requestFields Kunl) request)) (not-false _ (none 0)))
+      let tag = tagAt (requestFields Kunl) request in
+      λ _. safe (has-occupied (cacheOf (s .context)) (Tag tag) (tag-occupies tag) (not-false _ (none 0)))
   accepted-safe Fers request good arrays k none =
       rw (fers-orders (uncutOf image (s .cells) marks (partitionIn request) .told)) (run-safe (partitionIn request) never 0 good arrays (leb-false _ _ (none 0)) (none 2))
   accepted-safe Fsta request good arrays k none = safe

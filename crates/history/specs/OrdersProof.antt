@@ -63,7 +63,8 @@ module _ (image marks : List ℕ) (s : State) where
 
   direct-leaves : (command : Command) → directOf image marks command s .after .context ≡ s .context
   direct-leaves command =
-      subst (λ (o : Outcome DirectAnswer State). o .after .context ≡ s .context) (sym (direct-at image marks command s refl)) (by-lookup command (wordAt image (cellOf command)))
+      subst (λ (o : Outcome DirectAnswer State). o .after .context ≡ s .context) (sym (direct-at image marks command s refl))
+      (by-lookup command (wordAt image (cellOf command)))
 
   erase-leaves : (i k mask : ℕ) → eraseOf image marks i k mask s .after .context ≡ s .context
   unfolding eraseOf
@@ -99,7 +100,8 @@ module _ (image marks : List ℕ) (s : State) where
     accepted-sound Kunl request good arrays k none =
         let tag = tagAt (requestFields Kunl) request in
         let found = has-tells (cacheOf (s .context)) (Tag tag) (not-false _ (none 0)) in
-        sound-unload orders (s .context) sound (none 1) (lowestPlace (cacheOf (s .context)) (Tag tag)) (numberAt (requestFields Kunl) Cmd-timeout request) tag (found .0) (found .1)
+        sound-unload orders (s .context) sound (none 1) (lowestPlace (cacheOf (s .context)) (Tag tag))
+        (numberAt (requestFields Kunl) Cmd-timeout request) tag (found .0) (found .1)
     accepted-sound Fers request good arrays k none = fers-sound (uncutOf image (s .cells) marks (partitionIn request) .told)
     accepted-sound Fsta request good arrays k none = sound
     accepted-sound Unknown request good arrays k none = absurd (false≢true k)
@@ -118,7 +120,8 @@ module _ (image marks : List ℕ) (s : State) where
 
     reply-kept : (reply : EngineReply) → Kept (TakeReply reply)
     reply-kept reply =
-        reply-elim reply (s .context) (λ (o : Outcome ReplyAnswer (List ℕ)). Sound (cond (takenTold (Taking (o .told))) (closed (Answered reply) orders) orders) (o .after))
+        reply-elim reply (s .context)
+        (λ (o : Outcome ReplyAnswer (List ℕ)). Sound (cond (takenTold (Taking (o .told))) (closed (Answered reply) orders) orders) (o .after))
         (λ _. sound) (λ some. sound-reply reply orders (s .context) sound some)
 
     pub call-kept : (call : Call) → Kept call

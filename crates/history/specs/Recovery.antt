@@ -64,7 +64,8 @@ reply-still : (image marks : List ℕ) (s : State) (orders : List Given) → Sou
 reply-still image marks s orders sound reply =
     reply-elim reply (s .context) (λ (o : Outcome ReplyAnswer (List ℕ)). busy (cacheOf (o .after)) ≡ false)
     (λ none. idle-still (s .context) (sound .standing) none)
-    (λ some. idle-still (replied reply (s .context)) (sound-reply reply orders (s .context) sound some .standing) (ap not (eq-eqb _ _ (none-awaited reply (s .context) (sound .long)))))
+    (λ some. idle-still (replied reply (s .context)) (sound-reply reply orders (s .context) sound some .standing)
+    (ap not (eq-eqb _ _ (none-awaited reply (s .context) (sound .long)))))
 
 -- ---- the theorem
 

@@ -33,7 +33,8 @@ held-done : (reply : EngineReply) (order : ℕ) → kindAfter reply order ≡ he
 held-done Done order =
     cond-keeps (λ (k : ℕ). k ≡ held → (true ≡ true) × (order ≡ loadReply)) (eqb order loadReply) held _ (λ y _. (refl, eqb-true _ _ y))
     (λ _. cond-keeps (λ (k : ℕ). k ≡ held → (true ≡ true) × (order ≡ loadReply)) (eqb order unloadReply) empty _ (λ _ e. absurd (omega arith))
-    (λ _. cond-keeps (λ (k : ℕ). k ≡ held → (true ≡ true) × (order ≡ loadReply)) (eqb order clearReply) empty unsure (λ _ e. absurd (omega arith)) (λ _ e. absurd (omega arith))))
+    (λ _. cond-keeps (λ (k : ℕ). k ≡ held → (true ≡ true) × (order ≡ loadReply)) (eqb order clearReply) empty unsure
+    (λ _ e. absurd (omega arith)) (λ _ e. absurd (omega arith))))
 held-done TimedOut order = λ e. absurd (omega arith)
 held-done (Failed vendor) order = λ e. absurd (omega arith)
 
@@ -121,7 +122,8 @@ emptied-place context long e timeout waits k m =
     (decided (isAt (cacheOf context) Occupied k)))
     (decided (isAt (cacheOf context) Waiting k))
 
-clear-rests : (context : List ℕ) → Long context → cacheOf context .awaited ≡ clearReply → (timeout : ℕ) → Waits (Clear timeout) context → AtRest (cacheOf (replied Done context))
+clear-rests : (context : List ℕ) → Long context → cacheOf context .awaited ≡ clearReply → (timeout : ℕ) → Waits (Clear timeout) context
+    → AtRest (cacheOf (replied Done context))
 clear-rests context long e timeout waits = record {
   all-empty = not-yes (hasPlace (cacheOf (replied Done context)) Occupied) (λ y.
       let t = has-tells (cacheOf (replied Done context)) Occupied y in
@@ -138,7 +140,8 @@ pub clear-done : (context : List ℕ) {orders : List Given} → Sound orders con
     → (awaits (cacheOf context) ≡ true) × AtRest (cacheOf (replied Done context))
 clear-done context sound timeout before e = by (sound .standing) e
   where
-    by : {orders : List Given} → Standing context orders → orders ≡ given (Clear timeout) Open ∷ before → (awaits (cacheOf context) ≡ true) × AtRest (cacheOf (replied Done context))
+    by : {orders : List Given} → Standing context orders → orders ≡ given (Clear timeout) Open ∷ before
+        → (awaits (cacheOf context) ≡ true) × AtRest (cacheOf (replied Done context))
     by (idle _ _ z) q = absurd (omega (arith, sym (ap openIn q) ∙ z))
     by (awaited (Clear t) _ e waits z) q = (ap not (ne-eqb _ _ (λ n. omega (arith, sym e ∙ n))), clear-rests context (sound .long) e t waits)
     by (awaited Nothing _ e waits z) q = absurd waits

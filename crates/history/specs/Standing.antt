@@ -52,7 +52,8 @@ closed-none now o [] = refl
 closed-none now o (g ∷ orders) = rw (fate-closed now (g .fate) o) (omega (arith, closed-none now o orders))
 
 -- the last order that named a place was not the open one
-pub past-open : (order : Order) (before : List Given) (k : ℕ) → lastLoadDone (given order Open ∷ before) k ≡ true → (names order k ≡ false) × (lastLoadDone before k ≡ true)
+pub past-open : (order : Order) (before : List Given) (k : ℕ) → lastLoadDone (given order Open ∷ before) k ≡ true
+    → (names order k ≡ false) × (lastLoadDone before k ≡ true)
 past-open order before k h =
     ⊎-elim
     (λ (y : names order k ≡ true). absurd (false≢true (and (loads order) false (rw y at h) .1)))
@@ -203,7 +204,8 @@ module _ (orders : List Given) (context : List ℕ) (sound : Sound orders contex
     had-apart : isAt (cacheOf context) (Tag tag) place ≡ true → Apart waitsNow
     had-apart has = apart-kept context waitsNow kept (sound .apart)
       where
-        kept : (k : ℕ) → k < places → (kindIn (cacheOf waitsNow) k ≡ empty → ⊥) → (kindIn (cacheOf context) k ≡ empty → ⊥) × (tagIn (cacheOf waitsNow) k ≡ tagIn (cacheOf context) k)
+        kept : (k : ℕ) → k < places → (kindIn (cacheOf waitsNow) k ≡ empty → ⊥)
+            → (kindIn (cacheOf context) k ≡ empty → ⊥) × (tagIn (cacheOf waitsNow) k ≡ tagIn (cacheOf context) k)
         kept k m o =
             ⊎-elim
             (λ (y : eqb k place ≡ true).

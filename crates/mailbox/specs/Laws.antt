@@ -144,7 +144,8 @@ module _ (image marks : List ℕ) (code : ℕ) (request : List ℕ) (room block 
               ≡ firstOf refuse (ownTests command image request s ++ []) (accepted command image marks request s)
           alone = ap (λ (tests : List (Bool × ℕ)). firstOf refuse tests (accepted command image marks request s)) (sym (append-nil (ownTests command image request s)))
 
-          pub judged-own : (n : ℕ) → n ≡ numberOf (ownTests command image request s) → (n ≡ 0 → ⊥) → outcome (refused n) (s .cells) ≡ doneOf image marks code request room block s
+          pub judged-own : (n : ℕ) → n ≡ numberOf (ownTests command image request s) → (n ≡ 0 → ⊥)
+              → outcome (refused n) (s .cells) ≡ doneOf image marks code request room block s
           judged-own n q o =
               sym (past-request ∙ alone ∙ number-refuses refuse [] (accepted command image marks request s) (ownTests command image request s) n q o)
 

@@ -17,11 +17,18 @@ element-write-context c = search needs
 
 returns : tie.Need-returns
 unfolding emptied
-returns c = let done = c .before .before .before in let a = done .before .before .args in zeros-next 32 _ (a .context .now) (search needs) (done .empty-words .ensures)
+returns c =
+    let done = c .before .before .before in
+    let a = done .before .before .args in
+    zeros-next 32 _ (a .context .now) (search needs) (done .empty-words .ensures)
 
 returns-2 : tie.Need-returns-2
 unfolding emptied
-returns-2 c = let done = c .before .before .before in let a = done .before .before .args in sym (none-dropped _ (sym (c .before .awaited .ensures) ∙ c .if1 .left)) ∙ zeros-next 32 _ (a .context .now) (search needs) (done .empty-words .ensures)
+returns-2 c =
+    let done = c .before .before .before in
+    let a = done .before .before .args in
+    sym (none-dropped _ (sym (c .before .awaited .ensures) ∙ c .if1 .left))
+    ∙ zeros-next 32 _ (a .context .now) (search needs) (done .empty-words .ensures)
 
 pub clear-spec : {M : Type 1} → statement M
 clear-spec =

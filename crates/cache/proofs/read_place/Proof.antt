@@ -31,7 +31,10 @@ place-by-requires : tie.Need-place-by-requires
 place-by-requires c κs = search needs
 
 returns-2 : tie.Need-returns-2
-returns-2 c = let e = c .before .before .before in let a = e .before .args in c .place-by .ensures ∙ place-read (a .context .now) (a .k) (e .if1 .left)
+returns-2 c =
+    let e = c .before .before .before in
+    let a = e .before .args in
+    c .place-by .ensures ∙ place-read (a .context .now) (a .k) (e .if1 .left)
 
 pub read-place-spec : {M : Type 1} → statement M
 read-place-spec =

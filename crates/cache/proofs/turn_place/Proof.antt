@@ -24,10 +24,17 @@ put-place-requires : tie.Need-put-place-requires
 put-place-requires c κs = search needs
 
 returns : tie.Need-returns
-returns c = let s = c .before .before .before .before .before .before .before in let a = s .args in rw (c .put-place .ensures, c .before .before .kept-tag .ensures) (turn-sets (a .sought) (a .kind) (a .k) (a .context .now) (s .pre) (sym (c .before .before .before .before .before .is-at .ensures) ∙ c .before .before .before .before .if1 .taken))
+returns c =
+    let s = c .before .before .before .before .before .before .before in
+    let a = s .args in
+    rw (c .put-place .ensures, c .before .before .kept-tag .ensures)
+    (turn-sets (a .sought) (a .kind) (a .k) (a .context .now) (s .pre)
+    (sym (c .before .before .before .before .before .is-at .ensures) ∙ c .before .before .before .before .if1 .taken))
 
 returns-2 : tie.Need-returns-2
-returns-2 c = let a = c .before .before .before .args in turn-passes (a .sought) (a .kind) (a .k) (a .context .now) (sym (c .before .is-at .ensures) ∙ c .if1 .left)
+returns-2 c =
+    let a = c .before .before .before .args in
+    turn-passes (a .sought) (a .kind) (a .k) (a .context .now) (sym (c .before .is-at .ensures) ∙ c .if1 .left)
 
 pub turn-place-spec : {M : Type 1} → statement M
 turn-place-spec =

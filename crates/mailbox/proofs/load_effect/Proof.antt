@@ -21,7 +21,10 @@ effect-with-requires : tie.Need-effect-with-requires
 effect-with-requires c κs = search needs
 
 returns : tie.Need-returns
-returns c = let read = c .before .before in c .effect-with .ensures ∙ rw (c .before .one-number .ensures, read .before .before .lowest-place .ensures .0, read .tag-of .ensures Klod refl, read .before .timeout-of .ensures Klod refl)
+returns c =
+    let read = c .before .before in
+    c .effect-with .ensures
+    ∙ rw (c .before .one-number .ensures, read .before .before .lowest-place .ensures .0, read .tag-of .ensures Klod refl, read .before .timeout-of .ensures Klod refl)
 
 pub load-effect-spec : {M : Type 1} → statement M
 load-effect-spec =

@@ -21,7 +21,10 @@ effect-with-requires : tie.Need-effect-with-requires
 effect-with-requires c κs = search needs
 
 returns : tie.Need-returns
-returns c = let read = c .before .before in c .effect-with .ensures ∙ rw (c .before .no-numbers .ensures, read .before .lowest-place .ensures .0, read .before .before .tag-of .ensures Kunl refl, read .timeout-of .ensures Kunl refl)
+returns c =
+    let read = c .before .before in
+    c .effect-with .ensures
+    ∙ rw (c .before .no-numbers .ensures, read .before .lowest-place .ensures .0, read .before .before .tag-of .ensures Kunl refl, read .timeout-of .ensures Kunl refl)
 
 pub unload-effect-spec : {M : Type 1} → statement M
 unload-effect-spec =

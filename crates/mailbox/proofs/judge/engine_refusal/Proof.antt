@@ -17,7 +17,11 @@ is-busy-requires : tie.Need-is-busy-requires
 is-busy-requires c κs = search needs
 
 returns : tie.Need-returns
-returns c = let asked = c .before .before .before in let a = asked .before .args in engine-at (a .command) (a .context .now) 0 tt (rw (← asked .is-other-than-fsta .ensures, c .before .before .if1 .taken) (sym (c .before .is-busy .ensures) ∙ c .if2 .taken))
+returns c =
+    let asked = c .before .before .before in
+    let a = asked .before .args in
+    engine-at (a .command) (a .context .now) 0 tt
+    (rw (← asked .is-other-than-fsta .ensures, c .before .before .if1 .taken) (sym (c .before .is-busy .ensures) ∙ c .if2 .taken))
 
 is-klod-or-kunl-requires : tie.Need-is-klod-or-kunl-requires
 is-klod-or-kunl-requires c κs = search needs
@@ -41,10 +45,16 @@ past-18 c =
     (c .if3 .came)
 
 returns-2 : tie.Need-returns-2
-returns-2 c = let asked = c .before .before .before in let a = asked .before .before .before .args in engine-at (a .command) (a .context .now) 1 (past-17 (asked .before), tt) (rw (← asked .is-klod-or-kunl .ensures, c .before .before .if3 .taken) (sym (c .before .has-place .ensures) ∙ c .if4 .taken))
+returns-2 c =
+    let asked = c .before .before .before in
+    let a = asked .before .before .before .args in
+    engine-at (a .command) (a .context .now) 1 (past-17 (asked .before), tt)
+    (rw (← asked .is-klod-or-kunl .ensures, c .before .before .if3 .taken) (sym (c .before .has-place .ensures) ∙ c .if4 .taken))
 
 returns-3 : tie.Need-returns-3
-returns-3 c = let a = c .before .before .before .before .args in engine-past (a .command) (a .context .now) (past-17 (c .before .before), (past-18 c, tt))
+returns-3 c =
+    let a = c .before .before .before .before .args in
+    engine-past (a .command) (a .context .now) (past-17 (c .before .before), (past-18 c, tt))
 
 pub engine-refusal-spec : {M : Type 1} → statement M
 engine-refusal-spec =

@@ -38,16 +38,31 @@ has-place-requires : tie.Need-has-place-requires
 has-place-requires c κs = search needs
 
 returns-2 : tie.Need-returns-2
-returns-2 c = let there = c .before .before .before in load-at _ _ _ 1 (asked (there .before) ∙ there .if1 .left, tt) (found (c .before) ∙ c .if2 .taken)
+returns-2 c =
+    let there = c .before .before .before in
+    load-at _ _ _ 1 (asked (there .before) ∙ there .if1 .left, tt) (found (c .before) ∙ c .if2 .taken)
 
 has-place-requires-2 : tie.Need-has-place-requires-2
 has-place-requires-2 c κs = search needs
 
 returns-3 : tie.Need-returns-3
-returns-3 c = let new = c .before .before in let there = new .before .before .before in load-at _ _ _ 2 (asked (there .before) ∙ there .if1 .left, (found (new .before) ∙ new .if2 .left, tt)) (ap not (sym (c .before .has-place2 .ensures)) ∙ c .if3 .taken)
+returns-3 c =
+    let new = c .before .before in
+    let there = new .before .before .before in
+    load-at _ _ _ 2 (asked (there .before) ∙ there .if1 .left, (found (new .before) ∙ new .if2 .left, tt))
+    (ap not (sym (c .before .has-place2 .ensures)) ∙ c .if3 .taken)
 
 returns-4 : tie.Need-returns-4
-returns-4 c = let new = c .before .before in let there = new .before .before .before in load-past _ _ _ (asked (there .before) ∙ there .if1 .left, (found (new .before) ∙ new .if2 .left, (ap not (sym (c .before .has-place2 .ensures)) ∙ c .if3 .left, tt)))
+returns-4 c =
+    let new = c .before .before in
+    let there = new .before .before .before in
+    load-past _ _ _ (
+      asked (there .before) ∙ there .if1 .left,
+      (
+        found (new .before) ∙ new .if2 .left,
+        (ap not (sym (c .before .has-place2 .ensures)) ∙ c .if3 .left, tt),
+      ),
+    )
 
 pub load-refusal-spec : {M : Type 1} → statement M
 load-refusal-spec =
