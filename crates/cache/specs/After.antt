@@ -10,11 +10,11 @@ use native.Mathlib.Nat.{eq-or-lt-of-le, le-of-suc-le-suc}
 use lib.Dec.{eqb, ltb}
 use lib.ListN.{length, getD, set, drop, replicate, length-set, length-append, length-replicate}
 use lib.Seq.{getD-set-same, getD-set-other}
-use borrow.Author.Tests.{ltb-true, eqb-true, eqb-false, eq-eqb, ne-eqb, not-true, not-false}
+use borrow.Author.Tests.{lt-ltb, ltb-true, ltb-false, eqb-true, eqb-false, eq-eqb, ne-eqb, not-true, not-false}
 use Rattle.laws.specs.Tests.{and, cond-keeps}
 use Rattle.context.specs.Context.{kindsAt, tagsAt, awaitedAt}
 use Rattle.cache.specs.declared.Sought.{Sought}
-use Rattle.cache.specs.declared.Sought.the-variants.{Occupied, Waiting, Tag}
+use Rattle.cache.specs.declared.Sought.the-variants.{Occupied, Waiting, Unsure, Tag}
 use Rattle.cache.specs.declared.Place.{Place}
 use Rattle.cache.specs.declared.Place.the-variants.{Empty as EmptyPlace, Waiting as WaitingPlace, Held as HeldPlace, Unsure as UnsurePlace}
 use Rattle.cache.specs.Cache.{Cache, cacheOf, places, empty, held, waiting, unsure, kindIn, tagIn, kindIs, isAt, placeAt}
@@ -33,6 +33,10 @@ pub record Is (context : List ℕ) (j kind tag : ℕ) : Type 0 where
 -- at the words
 is-at : (context : List ℕ) (j kind tag : ℕ) → j < places → getD context (kindsAt + j) 0 ≡ kind → getD context (tagsAt + j) 0 ≡ tag → Is context j kind tag
 is-at context j kind tag l e f = record { kind-is = sym (kind-read context j l) ∙ e; tag-is = sym (tag-read context j l) ∙ f }
+
+-- a place that is as it was in another context, where it has this kind and this tag
+as-there : {context after : List ℕ} {j kind tag : ℕ} → Is after j (kindIn (cacheOf context) j) (tagIn (cacheOf context) j) → Is context j kind tag → Is after j kind tag
+as-there now was = record { kind-is = now .kind-is ∙ was .kind-is; tag-is = now .tag-is ∙ was .tag-is }
 
 -- ---- what a search says of the kind and the tag of a place
 
@@ -122,12 +126,9 @@ module _ (sought : Sought) (kind n : ℕ) (context t : List ℕ) (l : n < places
     below = λ j m b.
         ⊎-elim
         (λ (e : j ≡ n). rw (e, y, here .tag-is) (placed-here t (so .long) n kind (keptTag kind (tagIn (cacheOf context) n)) l))
-        (λ (u : j < n). let was = so .below j m u in let now = placed-there t (so .long) n kind (keptTag kind (tagIn (cacheOf t) n)) l j m (λ e. omega arith) in
-        record { kind-is = now .kind-is ∙ was .kind-is; tag-is = now .tag-is ∙ was .tag-is })
+        (λ (u : j < n). as-there (placed-there t (so .long) n kind (keptTag kind (tagIn (cacheOf t) n)) l j m (λ e. omega arith)) (so .below j m u))
         (eq-or-lt-of-le (le-of-suc-le-suc b));
-    beyond = λ j m b.
-        let was = so .beyond j m (omega arith) in let now = placed-there t (so .long) n kind (keptTag kind (tagIn (cacheOf t) n)) l j m (λ e. omega arith) in
-        record { kind-is = now .kind-is ∙ was .kind-is; tag-is = now .tag-is ∙ was .tag-is };
+    beyond = λ j m b. as-there (placed-there t (so .long) n kind (keptTag kind (tagIn (cacheOf t) n)) l j m (λ e. omega arith)) (so .beyond j m (omega arith));
     same = placed-awaited t (so .long) n kind _ l ∙ so .same;
   }
 
@@ -180,10 +181,7 @@ module _ (sought : Sought) (kind reply : ℕ) (context : List ℕ) (long : Long 
   all-turned = turned-to sought kind places context long (omega arith)
 
   turned-place : (j : ℕ) → j < places → Turned sought kind context (awaiting reply turned) j
-  turned-place j m =
-      let now = awaiting-place reply turned j m in
-      let was = all-turned .below j m m in
-      record { kind-is = now .kind-is ∙ was .kind-is; tag-is = now .tag-is ∙ was .tag-is }
+  turned-place j m = as-there (awaiting-place reply turned j m) (all-turned .below j m m)
 
   -- a place that was sought is of that kind, any other as it was
   pub turned-sought : (j : ℕ) → j < places → isAt (cacheOf context) sought j ≡ true → Is (awaiting reply turned) j kind (keptTag kind (tagIn (cacheOf context) j))
@@ -206,16 +204,10 @@ module _ (k kind tag reply : ℕ) (context : List ℕ) (long : Long context) (l 
   now = awaiting reply (placed k kind tag context)
 
   pub set-here : Is now k kind tag
-  set-here =
-      let a = awaiting-place reply (placed k kind tag context) k l in
-      let b = placed-here context long k kind tag l in
-      record { kind-is = a .kind-is ∙ b .kind-is; tag-is = a .tag-is ∙ b .tag-is }
+  set-here = as-there (awaiting-place reply (placed k kind tag context) k l) (placed-here context long k kind tag l)
 
   pub set-there : (j : ℕ) → j < places → (j ≡ k → ⊥) → Is now j (kindIn (cacheOf context) j) (tagIn (cacheOf context) j)
-  set-there j m o =
-      let a = awaiting-place reply (placed k kind tag context) j m in
-      let b = placed-there context long k kind tag l j m o in
-      record { kind-is = a .kind-is ∙ b .kind-is; tag-is = a .tag-is ∙ b .tag-is }
+  set-there j m o = as-there (awaiting-place reply (placed k kind tag context) j m) (placed-there context long k kind tag l j m o)
 
   pub set-awaited : cacheOf now .awaited ≡ reply
   set-awaited = awaiting-is reply (placed k kind tag context) (placed-long context long k kind tag l)
@@ -259,3 +251,18 @@ place-held c k tag e = read-tells c k held (omega arith) (omega arith) (ap readK
 
 pub place-waiting : (c : Cache) (k tag : ℕ) → placeAt c k ≡ WaitingPlace tag → (k < places) × (kindIn c k ≡ waiting)
 place-waiting c k tag e = read-tells c k waiting (omega arith) (omega arith) (ap readKind e)
+
+-- a place with a tag that neither waits nor is unsure is held
+pub held-place : (c : Cache) (k tag : ℕ) → k < places → isAt c (Tag tag) k ≡ true → isAt c Waiting k ≡ false → isAt c Unsure k ≡ false → placeAt c k ≡ HeldPlace tag
+unfolding isAt
+held-place c k tag l t w u =
+    let has = has-tag c k tag t in
+    let most : kindIn c k ≤ waiting = ltb-false _ _ u in
+    let one : kindIn c k ≡ held = omega (arith, ne-0-2 (kindIn c k) (has .0) (not-waiting c k w) most) in
+    rw (lt-ltb _ _ l, one, has .1)
+  where
+    ne-0-2 : (n : ℕ) → (n ≡ empty → ⊥) → (n ≡ waiting → ⊥) → n ≤ waiting → n ≡ held
+    ne-0-2 zero a b m = absurd (a refl)
+    ne-0-2 (suc zero) a b m = refl
+    ne-0-2 (suc (suc zero)) a b m = absurd (b refl)
+    ne-0-2 (suc (suc (suc n))) a b m = absurd (omega arith)

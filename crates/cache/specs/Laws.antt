@@ -3,11 +3,11 @@
 use Prim.Native.Nat.{ℕ, zero, suc, _+_, _≤_, _<_}
 use mathlib.Core.Path.{_≡_, refl, sym, ap, ap₂, subst, _∙_}
 use mathlib.Core.Logic.{⊎-elim, inr}
-use mathlib.Core.Bool.{Bool, true, false, cond, not, _&&_, false≢true}
+use mathlib.Core.Bool.{true, false, not, false≢true}
 use mathlib.Core.List.{List, _++_}
 use native.Mathlib.Omega.{arith}
 use native.Mathlib.Numerals.{add-one}
-use lib.Dec.{eqb, ltb}
+use lib.Dec.{eqb}
 use lib.ListN.{length, getD, set, drop, replicate, length-replicate, replicate-append-replicate}
 use lib.Seq.{set-at, set-getD, drop-cons, drop-set-lt, append-snoc}
 use borrow.Author.Tests.{lt-ltb, le-ltb, ltb-true, eqb-true, ne-eqb}
@@ -18,8 +18,8 @@ use Rattle.context.specs.Laws.{part-at, store-apart}
 use Rattle.cache.specs.declared.Sought.{Sought}
 use Rattle.cache.specs.declared.Sought.the-variants.{Occupied, Waiting, Tag}
 use Rattle.cache.specs.declared.Place.the-variants.{Empty as EmptyPlace}
-use Rattle.cache.specs.Cache.{Cache, cacheOf, places, kindIn, tagIn, empty, waiting, kindIs, isAt, lowestPlace, hasPlace, awaits, busy, AtRest, placeBy, placeAt}
-use Rattle.cache.specs.Cache.{cacheWords, placed, keptTag, turnedAt, turnedBelow, noReply, clearReply, awaiting, clearing, settled, emptied}
+use Rattle.cache.specs.Cache.{Cache, cacheOf, places, kindIn, tagIn, empty, waiting, kindIs, isAt, lowestPlace, hasPlace, busy, AtRest, placeBy, placeAt}
+use Rattle.cache.specs.Cache.{cacheWords, placed, keptTag, turnedAt, turnedBelow, noReply, clearReply, awaiting, waitingAt, clearing, settled, emptied}
 
 -- ---- a place, at the words that were read
 
@@ -119,6 +119,9 @@ module _ (reply : ℕ) (context : List ℕ) where
 -- where none is awaited, to drop it changes nothing
 pub none-dropped : (context : List ℕ) → cacheOf context .awaited ≡ noReply → awaiting noReply context ≡ context
 none-dropped context e = ap (set context awaitedAt) (sym (awaited-read context ∙ e)) ∙ set-getD context awaitedAt 0
+
+pub waiting-behind : (k tag reply : ℕ) (context : List ℕ) → drop cacheWords (waitingAt k tag reply context) ≡ drop cacheWords context
+waiting-behind k tag reply context = awaiting-behind reply (placed k waiting tag context) ∙ placed-behind context k waiting tag
 
 pub clearing-behind : (context : List ℕ) → drop cacheWords (clearing context) ≡ drop cacheWords context
 clearing-behind context = awaiting-behind clearReply (turnedBelow Occupied waiting places context) ∙ turned-behind Occupied waiting places context

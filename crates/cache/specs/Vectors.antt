@@ -52,7 +52,7 @@ replies :
 unfolding placed turnedBelow cacheOf isAt
 replies = refl
 
--- a place as it is read: of each kind, of one that we never write, and past the last
+-- a place as it is read: of each kind, and past the last
 reads :
     map (placeAt (cacheOf (with (1 ∷ 0 ∷ 2 ∷ 3 ∷ []) (7 ∷ 9 ∷ 8 ∷ 6 ∷ []) 0))) (0 ∷ 1 ∷ 2 ∷ 3 ∷ 16 ∷ [])
     ≡ HeldPlace 7 ∷ EmptyPlace ∷ WaitingPlace 8 ∷ UnsurePlace 6 ∷ EmptyPlace ∷ []

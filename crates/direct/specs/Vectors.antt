@@ -35,12 +35,15 @@ small = image 2 12 60 8 [] two
 abbrev cells : List ℕ
 cells = 1 ∷ replicate 11 0
 
--- contexts, the kinds of 16 places and then their tags: every place empty, and the first held
+-- contexts, the kinds of 16 places, their tags and the awaited reply: every place empty, and the first held; and a load's reply awaited
 abbrev no-key : List ℕ
 no-key = replicate 33 0
 
 abbrev one-key : List ℕ
-one-key = 1 ∷ replicate 31 0
+one-key = 1 ∷ replicate 32 0
+
+abbrev awaiting : List ℕ
+awaiting = replicate 32 0 ++ (2 ∷ [])
 
 -- a command on the small drive, with these marks on cell 1
 abbrev on-small : (stuck : ℕ) → Command → Outcome Answer State
@@ -60,6 +63,11 @@ zeroize-59 = refl
 write-secret : on-small 0 (Write 0 0x0000_0003_0000_0001) ≡ outcome Done (state (1 ∷ 3 ∷ replicate 10 0) no-key)
 unfolding runs
 write-secret = refl
+
+-- while a reply is awaited too: a direct command is no mailbox command
+write-awaiting : runs small (replicate 12 0) (Write 7 0x88) (state cells awaiting) ≡ outcome (Word 0x88) (state (1 ∷ replicate 6 0 ++ (0x88 ∷ replicate 4 0)) awaiting)
+unfolding runs
+write-awaiting = refl
 
 write-open :
     runs small (replicate 7 0 ++ (1 ∷ replicate 4 0)) (Write 7 0x89) (state cells no-key)

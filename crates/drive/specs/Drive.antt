@@ -105,7 +105,7 @@ available (BlankSlot i) = false
 available (TornSlot i) = false
 available Absent = false
 
--- ---- slots while a key is held
+-- ---- slots while a place of the cache is not empty
 
 -- 10, "slot change while keys are held": "WRITE, ZEROIZE and erasure on a slot are refused (10) while any place is held"; by request P5
 -- "Waiting and unsure places count as held"

@@ -186,8 +186,8 @@ module _ (image cells cells′ : List ℕ)
       active-none image cells′ (place-same ∙ end) ∙ sym (active-none image cells end))
       (decided (ltb i p))
 
--- ---- a slot while a key is held, at the entry that was read
+-- ---- a slot while a place is not empty, at the entry that was read
 
-pub in-use-is : (image : List ℕ) (i : ℕ) {x : Entry} → x ≡ entryOf image i → (context : List ℕ) {is-slot held : Bool} → is-slot ≡ slot x
-    → held ≡ hasPlace (cacheOf context) Occupied → (is-slot && held) ≡ slotInUse image i context
+pub in-use-is : (image : List ℕ) (i : ℕ) {x : Entry} → x ≡ entryOf image i → (context : List ℕ) {is-slot occupied : Bool} → is-slot ≡ slot x
+    → occupied ≡ hasPlace (cacheOf context) Occupied → (is-slot && occupied) ≡ slotInUse image i context
 in-use-is image i e context s h = rw (s, h, e)

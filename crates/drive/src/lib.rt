@@ -1,6 +1,6 @@
 // A whole drive: map image, fuse cells and stuck marks together. The refusals that every call
 // shares, a partition's state, the active slot with its HEK, and whether a slot may not change, since
-// a key is held. The entry point is `check_drive`, which answers for any bytes and any lengths; what
+// a place of the cache is not empty. The entry point is `check_drive`, which answers for any bytes and any lengths; what
 // asks for a whole drive is for callers that it has accepted. The definitions are in `specs/Drive`,
 // the laws for callers in `specs/Laws` and, of the active slot, in `specs/Active`. It rests on `map`,
 // `partition` and `cache`, and below them on `context`, `endian` and `laws`.

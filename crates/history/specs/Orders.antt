@@ -125,7 +125,8 @@ lastLoadDone (g ∷ orders) k = cond (names (g .order) k) (loads (g .order) && i
 
 -- ---- the claim
 
--- "an empty context": all places are empty and no reply is awaited; as the array that it is, it has the words of the cache
+-- "an empty context": all places are empty and no reply is awaited. It has the words of the cache, as every lent context has, which is an
+-- array of 33; of a shorter list the claim below would be false, since what is stored past its end is lost
 pub record EmptyContext (context : List ℕ) : Type 0 where
   pub at-rest : AtRest (cacheOf context)
   pub long : Long context

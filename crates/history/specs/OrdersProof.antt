@@ -1,16 +1,16 @@
 -- Request P5, the theorem of `Orders`: each call keeps what `Standing` says, so every list of calls does. Assumes nothing.
-use Prim.Native.Nat.{ℕ, _+_, _≤_}
+use Prim.Native.Nat.{ℕ, _≤_}
 use mathlib.Core.Path.{_≡_, refl, sym, ap, subst, _∙_}
 use mathlib.Core.Logic.{⊎-elim}
-use mathlib.Core.Bool.{Bool, true, false, cond, not, false≢true}
+use mathlib.Core.Bool.{true, false, cond, not, false≢true}
 use mathlib.Core.List.{List, [], _∷_}
 use native.Mathlib.Omega.{arith}
 use lib.Dec.{eqb}
 use lib.ListN.{length}
-use borrow.Author.Tests.{eq-eqb, ne-eqb, not-false, not-true}
+use borrow.Author.Tests.{eq-eqb, ne-eqb, not-false}
 use Rattle.laws.specs.Tests.{decided, cond-keeps}
 use Rattle.laws.specs.Refusals.{first-elim, testAt}
-use Rattle.context.specs.State.{State, withContext, Outcome, outcome, refusing}
+use Rattle.context.specs.State.{State, Outcome, refusing}
 use Rattle.map.specs.Map.{mapGood}
 use Rattle.drive.specs.Drive.{wholeArrays}
 use Rattle.cache.specs.Cache.{cacheOf, lowestPlace, awaits, placeAt}
@@ -29,8 +29,7 @@ use Rattle.direct.specs.Laws.{direct-at}
 use Rattle.erasure.specs.declared.Answer.{Answer}
 use Rattle.erasure.specs.declared.Answer.the-variants.{Ended, Cut, Refused as NotErased}
 use Rattle.erasure.specs.Erasure.{eraseTests, never, unburned, burning, eraseOf, isCut, uncutOf}
-use Rattle.engine.specs.declared.Order.{Order}
-use Rattle.engine.specs.declared.Order.the-variants.{Nothing, Clear, Load, Unload}
+use Rattle.engine.specs.declared.Order.the-variants.{Nothing}
 use Rattle.engine.specs.declared.EngineReply.{EngineReply}
 use Rattle.engine.specs.declared.EngineReply.the-variants.{Done}
 use Rattle.codec.specs.declared.Command.{Command as Code}
@@ -39,14 +38,13 @@ use Rattle.codec.specs.Fields.{commandOf, known, Cmd-timeout, requestFields, nu
 use Rattle.mailbox.specs.declared.Effect.{Effect}
 use Rattle.mailbox.specs.declared.Reply.{Reply}
 use Rattle.mailbox.specs.declared.Reply.the-variants.{Refused, Accepted}
-use Rattle.mailbox.specs.Laws.{fers-orders}
 use Rattle.mailbox.specs.Told.{mailbox-elim}
 use Rattle.mailbox.specs.Mailbox.{refused, fersOf, partitionIn, accepted, ownTests, contextAfter, replyOf}
 use Rattle.reply.specs.declared.Answer.{Answer as ReplyAnswer}
 use Rattle.reply.specs.Laws.{reply-elim, reply-taken}
 use Rattle.history.specs.Calls.{Call, Direct, Erase, EraseCut, Mailbox, TakeReply, Restart, Taking, orderIn, told, after, afterAll}
-use Rattle.history.specs.Orders.{Given, given, Open, Answered, Dropped, opened, closed, takenTold, ordersAfter, ordersAll, openIn, EmptyContext, Orderly}
-use Rattle.history.specs.Standing.{Standing, idle, awaited, Sound, sound-start, sound-emptied, sound-load, sound-unload, sound-clear, replyTo, Waits}
+use Rattle.history.specs.Orders.{Given, Answered, opened, closed, takenTold, ordersAfter, ordersAll, openIn, EmptyContext, Orderly}
+use Rattle.history.specs.Standing.{Standing, idle, awaited, Sound, sound-start, sound-emptied, sound-load, sound-unload, sound-clear, replied-to}
 use Rattle.history.specs.Settled.{sound-reply, clear-done}
 
 -- ---- calls that leave the context
@@ -146,13 +144,8 @@ pub open-exactly : (context : List ℕ) {orders : List Given} → Standing conte
     → (openIn orders ≤ 1) × ((openIn orders ≡ 1 → awaits (cacheOf context) ≡ true) × (awaits (cacheOf context) ≡ true → openIn orders ≡ 1))
 open-exactly context (idle e none z) =
     (omega arith, ((λ q. absurd (omega arith)), λ y. absurd (false≢true (sym (ap not (eq-eqb _ _ e)) ∙ y))))
-open-exactly context (awaited order before e waits z) = (omega arith, ((λ _. ap not (ne-eqb _ _ (λ q. some order waits (sym e ∙ q)))), λ _. omega arith))
-  where
-    some : (order : Order) → Waits order context → replyTo order ≡ 0 → ⊥
-    some Nothing w q = w
-    some (Clear timeout) w q = omega arith
-    some (Load place timeout) w q = omega arith
-    some (Unload place timeout) w q = omega arith
+open-exactly context (awaited order before e waits z) =
+    (omega arith, ((λ _. ap not (ne-eqb _ _ (λ q. replied-to order context waits (sym e ∙ q)))), λ _. omega arith))
 
 waiting-awaited : (context : List ℕ) {orders : List Given} → Standing context orders → (k tag : ℕ) → placeAt (cacheOf context) k ≡ Waiting tag
     → awaits (cacheOf context) ≡ true

@@ -10,7 +10,6 @@ use lib.ListN.{length, getD}
 use Rattle.context.specs.State.{State, state, withCells}
 use Rattle.map.specs.Map.{headerOf, entryOf, endBefore, software}
 use Rattle.map.specs.Laws.{EntryRules, map-entry}
-use Rattle.fuse.specs.Fuse.{free}
 use Rattle.drive.specs.Drive.{Whole as WholeDrive, cellsOf}
 use Rattle.cache.specs.Cache.{cacheOf, AtRest}
 use Rattle.burns.specs.declared.End.{End}

@@ -67,7 +67,7 @@ reply-still image marks s orders sound reply =
     (λ some. idle-still (replied reply (s .context)) (sound-reply reply orders (s .context) sound some .standing)
     (ap not (eq-eqb _ _ (none-awaited reply (s .context) (sound .long)))))
 
--- ---- the theorem
+-- ---- the theorem; that 1 and 2 do not refuse the drive is asked of what is lent when the three calls begin
 
 module _ (image marks : List ℕ) (good : mapGood image ≡ true) where
   recovers-from : (s : State) (orders : List Given) → Sound orders (s .context) → wholeArrays image (s .cells) marks ≡ true → (reply : EngineReply)

@@ -22,21 +22,21 @@ use Rattle.history.specs.Orders.{Open, Answered, Given, given, closed, i
 use Rattle.history.specs.Standing.{closed-same, closed-none, past-open, replyTo, Waits, NoneWaits, Standing, idle, awaited, Apart, Sound, apart-kept}
 
 -- no reply makes a place wait; only done to a load makes it held
-kind-waits : (reply : EngineReply) (order : ℕ) → kindAfter reply order ≡ waiting → ⊥
-kind-waits Done order = cond-keeps (λ (k : ℕ). k ≡ waiting → ⊥) (eqb order loadReply) held _ (λ _ e. omega arith)
-    (λ _. cond-keeps (λ (k : ℕ). k ≡ waiting → ⊥) (eqb order unloadReply) empty _ (λ _ e. omega arith)
-    (λ _. cond-keeps (λ (k : ℕ). k ≡ waiting → ⊥) (eqb order clearReply) empty unsure (λ _ e. omega arith) (λ _ e. omega arith)))
-kind-waits TimedOut order = λ e. omega arith
-kind-waits (Failed vendor) order = λ e. omega arith
+kind-waits : (reply : EngineReply) (answered : ℕ) → kindAfter reply answered ≡ waiting → ⊥
+kind-waits Done answered = cond-keeps (λ (k : ℕ). k ≡ waiting → ⊥) (eqb answered loadReply) held _ (λ _ e. omega arith)
+    (λ _. cond-keeps (λ (k : ℕ). k ≡ waiting → ⊥) (eqb answered unloadReply) empty _ (λ _ e. omega arith)
+    (λ _. cond-keeps (λ (k : ℕ). k ≡ waiting → ⊥) (eqb answered clearReply) empty unsure (λ _ e. omega arith) (λ _ e. omega arith)))
+kind-waits TimedOut answered = λ e. omega arith
+kind-waits (Failed vendor) answered = λ e. omega arith
 
-held-done : (reply : EngineReply) (order : ℕ) → kindAfter reply order ≡ held → (isDone (Answered reply) ≡ true) × (order ≡ loadReply)
-held-done Done order =
-    cond-keeps (λ (k : ℕ). k ≡ held → (true ≡ true) × (order ≡ loadReply)) (eqb order loadReply) held _ (λ y _. (refl, eqb-true _ _ y))
-    (λ _. cond-keeps (λ (k : ℕ). k ≡ held → (true ≡ true) × (order ≡ loadReply)) (eqb order unloadReply) empty _ (λ _ e. absurd (omega arith))
-    (λ _. cond-keeps (λ (k : ℕ). k ≡ held → (true ≡ true) × (order ≡ loadReply)) (eqb order clearReply) empty unsure
+held-done : (reply : EngineReply) (answered : ℕ) → kindAfter reply answered ≡ held → (isDone (Answered reply) ≡ true) × (answered ≡ loadReply)
+held-done Done answered =
+    cond-keeps (λ (k : ℕ). k ≡ held → (true ≡ true) × (answered ≡ loadReply)) (eqb answered loadReply) held _ (λ y _. (refl, eqb-true _ _ y))
+    (λ _. cond-keeps (λ (k : ℕ). k ≡ held → (true ≡ true) × (answered ≡ loadReply)) (eqb answered unloadReply) empty _ (λ _ e. absurd (omega arith))
+    (λ _. cond-keeps (λ (k : ℕ). k ≡ held → (true ≡ true) × (answered ≡ loadReply)) (eqb answered clearReply) empty unsure
     (λ _ e. absurd (omega arith)) (λ _ e. absurd (omega arith))))
-held-done TimedOut order = λ e. absurd (omega arith)
-held-done (Failed vendor) order = λ e. absurd (omega arith)
+held-done TimedOut answered = λ e. absurd (omega arith)
+held-done (Failed vendor) answered = λ e. absurd (omega arith)
 
 module _ (reply : EngineReply) (context : List ℕ) (long : Long context) where
   abbrev kindNow : ℕ

@@ -1,28 +1,25 @@
 -- Request P5, what the proof of `Orders` keeps from call to call (`Sound`), and that each order, a cut and a restart keep it; a reply is in
 -- `Settled`. Assumes nothing.
 use Prim.Native.Nat.{ℕ, _+_, _<_}
-use mathlib.Core.Path.{_≡_, refl, sym, ap, ap₂, subst, _∙_}
+use mathlib.Core.Path.{_≡_, refl, sym, ap, ap₂, _∙_}
 use mathlib.Core.Logic.{_⊎_, inl, inr, ⊎-elim}
-use mathlib.Core.Bool.{Bool, true, false, cond, not, _&&_, false≢true}
+use mathlib.Core.Bool.{Bool, true, false, not, false≢true}
 use mathlib.Core.List.{List, [], _∷_}
 use native.Mathlib.Omega.{arith}
 use lib.Dec.{eqb}
-use borrow.Author.Tests.{eqb-true, eqb-false, eq-eqb, ne-eqb, not-false}
-use Rattle.laws.specs.Tests.{decided, and, neither, cond-keeps}
+use borrow.Author.Tests.{eqb-true, eqb-false, not-false}
+use Rattle.laws.specs.Tests.{decided, and, neither}
 use Rattle.laws.specs.Below.{tally}
-use Rattle.cache.specs.Cache.{cacheOf, places, empty, held, waiting, unsure, noReply, clearReply, loadReply, unloadReply, kindIn, tagIn, isAt, hasPlace}
-use Rattle.cache.specs.Cache.{awaits, busy, keptTag, placed, awaiting, waitingAt, clearing, emptied}
+use Rattle.cache.specs.Cache.{cacheOf, places, empty, held, waiting, noReply, clearReply, loadReply, unloadReply, kindIn, tagIn, isAt, hasPlace}
+use Rattle.cache.specs.Cache.{awaits, busy, placed, awaiting, waitingAt, clearing, emptied}
 use Rattle.cache.specs.declared.Sought.the-variants.{Occupied, Waiting, Tag}
 use Rattle.cache.specs.Laws.{has-none, emptied-rest}
-use Rattle.cache.specs.After.{Long, Is, is-occupied, not-occupied, is-waiting, not-waiting, has-tag, tag-at, turned-sought, turned-other, turned-awaited, turned-long}
+use Rattle.cache.specs.After.{Long, Is, is-occupied, not-occupied, has-tag, tag-at, turned-sought, turned-other, turned-awaited, turned-long}
 use Rattle.cache.specs.After.{set-here, set-there, set-awaited, set-long, emptied-long, emptied-kind}
 use Rattle.engine.specs.declared.Order.{Order}
 use Rattle.engine.specs.declared.Order.the-variants.{Nothing, Clear, Load, Unload}
-use Rattle.engine.specs.declared.EngineReply.{EngineReply}
-use Rattle.engine.specs.declared.EngineReply.the-variants.{Done, TimedOut, Failed}
 use Rattle.mailbox.specs.Mailbox.{loads}
-use Rattle.reply.specs.Reply.{kindAfter, replied}
-use Rattle.history.specs.Orders.{Fate, Open, Answered, Dropped, Given, given, fateBy, closed, isOpen, isDone, openIn, names, lastLoadDone, EmptyContext}
+use Rattle.history.specs.Orders.{Fate, Open, Answered, Dropped, Given, given, fateBy, closed, isOpen, openIn, names, lastLoadDone, EmptyContext}
 
 -- ---- orders that are closed
 
@@ -76,6 +73,13 @@ Waits (Clear timeout) context = (k : ℕ) → k < places → (kindIn (cacheOf co
 Waits (Load place timeout) context = (k : ℕ) → k < places → kindIn (cacheOf context) k ≡ waiting → k ≡ place
 Waits (Unload place timeout) context = (k : ℕ) → k < places → kindIn (cacheOf context) k ≡ waiting → k ≡ place
 
+-- an order that places wait for has a reply of its own
+pub replied-to : (order : Order) (context : List ℕ) → Waits order context → replyTo order ≡ noReply → ⊥
+replied-to Nothing context w q = w
+replied-to (Clear timeout) context w q = omega arith
+replied-to (Load place timeout) context w q = omega arith
+replied-to (Unload place timeout) context w q = omega arith
+
 abbrev pub NoneWaits : (context : List ℕ) → Type 0
 NoneWaits context = (k : ℕ) → k < places → kindIn (cacheOf context) k ≡ waiting → ⊥
 
@@ -114,6 +118,10 @@ sound-start context e =
     rested context (e .long) (λ k l. not-occupied (cacheOf context) k (has-none (cacheOf context) Occupied (e .at-rest .all-empty) k l))
     (none-by context (e .at-rest .none-awaited)) [] refl
 
+-- what a cut or a restart leaves is such a context
+pub restart-empty : (context : List ℕ) → EmptyContext (emptied context)
+restart-empty context = record { at-rest = emptied-rest context; long = emptied-long context }
+
 -- a cut and a restart: all is emptied, and what was open is dropped
 pub sound-emptied : (orders : List Given) (context : List ℕ) → Sound (closed Dropped orders) (emptied context)
 sound-emptied orders context =
@@ -137,16 +145,9 @@ record Free (orders : List Given) (context : List ℕ) : Type 0 where
 
 free-by : (orders : List Given) (context : List ℕ) → Standing context orders → busy (cacheOf context) ≡ false → Free orders context
 free-by orders context (idle e none z) o = record { none = none; closed-all = z }
-free-by _ context (awaited order before e waits z) o = absurd (busy-not order waits (e′ ∙ e))
-  where
-    e′ : noReply ≡ cacheOf context .awaited
-    e′ = sym (none-by context (neither (awaits (cacheOf context)) (hasPlace (cacheOf context) Waiting) o .0))
-
-    busy-not : (order : Order) → Waits order context → noReply ≡ replyTo order → ⊥
-    busy-not Nothing w q = w
-    busy-not (Clear timeout) w q = omega arith
-    busy-not (Load place timeout) w q = omega arith
-    busy-not (Unload place timeout) w q = omega arith
+free-by _ context (awaited order before e waits z) o =
+    let none = none-by context (neither (awaits (cacheOf context)) (hasPlace (cacheOf context) Waiting) o .0) in
+    absurd (replied-to order context waits (sym e ∙ none))
 
 module _ (orders : List Given) (context : List ℕ) (sound : Sound orders context) (not-busy : busy (cacheOf context) ≡ false) where
   free : Free orders context

@@ -89,7 +89,7 @@ loadTests image request s =
     ∷ (not (hasPlace (cacheOf (s .context)) Empty), 13)
     ∷ []
 
--- 14 "KUNL, tag not held"
+-- 14 "KUNL, tag not held"; "KUNL finds a waiting or unsure tag but is refused on it", by 17 or 18 (`unload-held`)
 abbrev pub unloadTests : (context request : List ℕ) → List (Bool × ℕ)
 unloadTests context request =
     (not (hasPlace (cacheOf context) (Tag (tagAt (requestFields Kunl) request))), 14)
@@ -146,7 +146,7 @@ abbrev pub mailboxTests : (image marks : List ℕ) (code : ℕ) (request : List 
 mailboxTests image marks code request room block s =
     driveTests image (s .cells) marks ++ laterTests (commandOf code) image code request (buffersBad room block) s
 
--- "the lowest that applies is given, and none is given otherwise"
+-- "the lowest that applies is given, and none is given otherwise", where by request P5 17 and 18 are checked before 15
 unfoldable pub doneOf : (image marks : List ℕ) (code : ℕ) (request : List ℕ) (room block : ℕ) → State → Outcome Effect (List ℕ)
 doneOf image marks code request room block s =
     firstOf (refusing refused (s .cells)) (mailboxTests image marks code request room block s) (accepted (commandOf code) image marks request s)

@@ -1,33 +1,42 @@
--- What the mailbox tells: a response read by its list, and which refusal is given. Assumes nothing.
+-- What the mailbox tells: a response read by its list, which refusal is given, what FERS leaves and which place KUNL finds. Assumes nothing.
 use Prim.Native.Nat.{ℕ, suc}
 use mathlib.Core.Path.{_≡_, refl, sym, subst, _∙_}
-use mathlib.Core.Bool.{Bool, true, false}
+use mathlib.Core.Bool.{Bool, true, false, false≢true}
 use mathlib.Core.List.{List}
 use native.Mathlib.Omega.{arith}
 use lib.ListN.{length}
+use lib.Dec.{eqb}
 use borrow.Author.Tests.{ne-eqb, not-false, leb-false}
+use Rattle.laws.specs.Tests.{neither, cond-keeps}
 use Rattle.laws.specs.Refusals.{firstOf, first-elim, first-map, first-agree, testAt, Applies, not-applies}
 use Rattle.laws.specs.Refusals.{GivenFirst, given-first, GivenLowest, lowest-tells}
 use Rattle.context.specs.State.{State, Outcome, outcome, refusing, telling}
 use Rattle.map.specs.Map.{mapGood}
 use Rattle.drive.specs.Drive.{wholeArrays, slotNumber, surveyAt}
 use Rattle.drive.specs.declared.ActiveSlot.{ActiveSlot}
-use Rattle.cache.specs.Cache.{cacheOf, lowestPlace}
-use Rattle.cache.specs.declared.Sought.the-variants.{Empty}
+use Rattle.cache.specs.Cache.{Cache, cacheOf, lowestPlace, hasPlace, awaits, placeAt}
+use Rattle.cache.specs.declared.Sought.the-variants.{Empty, Waiting, Unsure, Tag}
+use Rattle.cache.specs.declared.Place.the-variants.{Held}
+use Rattle.cache.specs.Laws.{has-tells, has-none}
+use Rattle.cache.specs.After.{held-place}
 use Rattle.burns.specs.declared.End.{End}
 use Rattle.burns.specs.declared.End.the-variants.{Whole, Stopped, Cut as CutEnd}
 use Rattle.burns.specs.Run.{Tally}
-use Rattle.erasure.specs.declared.Answer.the-variants.{Ended}
-use Rattle.erasure.specs.Erasure.{runOn, never, answerBy}
+use Rattle.erasure.specs.declared.Answer.{Answer}
+use Rattle.erasure.specs.declared.Answer.the-variants.{Ended, Cut, Refused as NotErased}
+use Rattle.erasure.specs.Erasure.{runOn, never, answerBy, uncutOf}
 use Rattle.erasure.specs.Cuts.{whole-by}
 use Rattle.erasure.specs.Ends.{indicatorCell, LeftBy, LeftAs, run-left-as}
 use Rattle.engine.specs.declared.Order.{Order}
-use Rattle.codec.specs.declared.Command.the-variants.{Klod, Fers, Fsta}
-use Rattle.codec.specs.Fields.{known, Place, Short-pairs, First-short, Active-slot, Hek-available, responseFields, numberAt}
+use Rattle.engine.specs.declared.Order.the-variants.{Nothing, Clear, Load, Unload}
+use Rattle.codec.specs.declared.Command.{Command}
+use Rattle.codec.specs.declared.Command.the-variants.{Clkc, Klod, Kunl, Fers, Fsta, Unknown}
+use Rattle.codec.specs.Fields.{known, Place, Short-pairs, First-short, Active-slot, Hek-available, requestFields, responseFields, numberAt, tagAt}
 use Rattle.codec.specs.Fields.{codeOf, commandOf, noNumbers, oneNumber, twoNumbers}
 use Rattle.codec.specs.Request.{requestTests}
 use Rattle.codec.specs.Laws.{response-reads}
 use Rattle.mailbox.specs.declared.Effect.{Effect}
+use Rattle.mailbox.specs.declared.Reply.{Reply}
 use Rattle.mailbox.specs.declared.Reply.the-variants.{Refused, Accepted}
 use Rattle.mailbox.specs.Mailbox.{replyOf, refused, loadOf, fersOf, hekNumber, statusOf, accepted}
 use Rattle.mailbox.specs.Mailbox.{partitionIn, ownTests, buffersBad, mailboxTests, doneOf, responseAfter, Lent, mailboxOf}
@@ -144,3 +153,50 @@ module _ (image marks request : List ℕ) (l : Lent) where
       by-end (r .end) (r .tally)
       (run-left-as image (s .cells) marks p never 0 (whole-by image (s .cells) marks good arrays)
       (leb-false _ _ (none 0)) (not-false _ (none 1)) (r .end) refl))
+
+-- ---- an accepted KUNL: "KUNL finds a waiting or unsure tag but is refused on it"
+
+-- a place that is to be unloaded is held, with this tag
+abbrev UnloadsHeld : Cache → (tag : ℕ) → Reply → Type 0
+UnloadsHeld c tag (Refused number) = Unit {0}
+UnloadsHeld c tag (Accepted length Nothing) = Unit {0}
+UnloadsHeld c tag (Accepted length (Clear timeout)) = Unit {0}
+UnloadsHeld c tag (Accepted length (Load place timeout)) = Unit {0}
+UnloadsHeld c tag (Accepted length (Unload place timeout)) = placeAt c place ≡ Held tag
+
+module _ (image marks : List ℕ) (code : ℕ) (request : List ℕ) (l : Lent) where
+  abbrev c : Cache
+  c = cacheOf (l .state .context)
+
+  abbrev FindsHeld : Outcome Effect (List ℕ) → Type 0
+  FindsHeld d = UnloadsHeld c (tagAt (requestFields Kunl) request) (replyOf (d .told))
+
+  -- no other command unloads, nor does a refusal
+  no-unload : (n : ℕ) (cells : List ℕ) → FindsHeld (outcome (refused n) cells)
+  no-unload n cells = cond-keeps (UnloadsHeld c (tagAt (requestFields Kunl) request)) (eqb n 0) (Accepted _ Nothing) (Refused n) (λ _. tt) (λ _. tt)
+
+  fers-no-unload : (answer : Answer) (cells : List ℕ) → FindsHeld (outcome (fersOf answer) cells)
+  fers-no-unload (Ended short first burns) cells = tt
+  fers-no-unload (NotErased number burns) cells = no-unload number cells
+  fers-no-unload (Cut burns) cells = tt
+
+  finds-held : (command : Command) → known command ≡ true → ((k : ℕ) → testAt (ownTests command image request (l .state)) k ≡ false)
+      → FindsHeld (accepted command image marks request (l .state))
+  finds-held Clkc k none = tt
+  finds-held Klod k none = tt
+  finds-held Kunl k none =
+      let tag = tagAt (requestFields Kunl) request in
+      let found = has-tells c (Tag tag) (not-false _ (none 0)) in
+      held-place c (lowestPlace c (Tag tag)) tag (found .0) (found .1)
+      (has-none c Waiting (neither (awaits c) (hasPlace c Waiting) (none 1) .1) _ (found .0)) (has-none c Unsure (none 2) _ (found .0))
+  finds-held Fers k none = let done = uncutOf image (l .state .cells) marks (partitionIn request) in fers-no-unload (done .told) (done .after)
+  finds-held Fsta k none = tt
+  finds-held Unknown k none = absurd (false≢true k)
+
+  -- the place that a call orders to unload is held, with the request's tag
+  pub unload-held : (n place timeout : ℕ) → mailboxOf image marks code request l .told ≡ Accepted n (Unload place timeout)
+      → placeAt c place ≡ Held (tagAt (requestFields Kunl) request)
+  unload-held n place timeout e =
+      subst (UnloadsHeld c (tagAt (requestFields Kunl) request)) e
+      (mailbox-elim image marks code request (length (l .response)) (length (l .block)) (l .state) FindsHeld (λ n _ _. no-unload n (l .state .cells))
+      (λ _ _ k none. finds-held (commandOf code) k none))

@@ -10,9 +10,12 @@ use Rattle.laws.specs.Below.{allBelow, countBelow, firstFrom}
 use Rattle.endian.specs.Endian.{u16At, u32At, bytes4}
 use Rattle.context.specs.State.{state, Outcome, outcome}
 use Rattle.map.specs.Map.{headerGood, fillerGood, entryGood, placeGood, mapGood}
-use Rattle.map.specs.Image.{image}
+use Rattle.map.specs.Image.{image, entry}
 use Rattle.map.specs.Vectors.{two}
 use Rattle.partition.specs.Partition.{shortAt, marked, zeroCell, stateOf}
+use Rattle.fuse.specs.Fuse.{burnCell, burnWord}
+use Rattle.burns.specs.Run.{wordsFrom, order, goesOn, stopsAfter, burnsOf}
+use Rattle.erasure.specs.Erasure.{runOn}
 use Rattle.drive.specs.Drive.{wholeArrays, surveyAt, slotAt, openSlot, activeSlot}
 use Rattle.cache.specs.Cache.{cacheOf, isAt, placed, turnedBelow}
 use Rattle.engine.specs.Engine.{zeros}
@@ -116,19 +119,28 @@ refusals :
     ∷ does small cells (full 3) 0x4B4C_4F44 (klod 0xFFFF_FED4 0) 20 128
     -- 14
     ∷ does small cells (full 3) 0x4B55_4E4C (bytes4 0xFFFF_FEC4 ++ bytes4 0 ++ bytes4 0 ++ bytes4 2 ++ bytes4 0) 20 128
-    -- 17 with 18: a reply is awaited, a place waits, both; of KLOD, KUNL, CLKC and FERS, which is not FERS's 15
+    -- 17, where for KLOD and KUNL 18 applies too: a reply is awaited, a place waits, both
     ∷ does small cells (room 1 3 9) 0x4B4C_4F44 (klod 0xFFFF_FED4 0) 20 128
     ∷ does small cells (room 2 3 0) 0x4B4C_4F44 (klod 0xFFFF_FED4 0) 20 128
     ∷ does small cells (room 2 3 2) 0x4B55_4E4C kunl-3 20 128
     ∷ does small cells (room 2 3 1) 0x434C_4B43 (bytes4 0xFFFF_FDF8 ++ bytes4 0 ++ bytes4 1000) 20 128
-    ∷ does small cells (zeros 32 ++ (3 ∷ [])) 0x4645_5253 (bytes4 0xFFFF_FED0 ++ bytes4 0 ++ bytes4 0) 20 128
     -- 18, of an unsure place and of a kind that we never write
     ∷ does small cells (room 1 3 0) 0x4B4C_4F44 (klod 0xFFFF_FED4 0) 20 128
     ∷ does small cells (room 9 1 0) 0x4B55_4E4C kunl-3 20 128
     ∷ []
-    ≡ map refused (1 ∷ 2 ∷ 2 ∷ 2 ∷ 3 ∷ 4 ∷ 5 ∷ 6 ∷ 7 ∷ 8 ∷ 10 ∷ 11 ∷ 12 ∷ 13 ∷ 14 ∷ 17 ∷ 17 ∷ 17 ∷ 17 ∷ 17 ∷ 18 ∷ 18 ∷ [])
+    ≡ map refused (1 ∷ 2 ∷ 2 ∷ 2 ∷ 3 ∷ 4 ∷ 5 ∷ 6 ∷ 7 ∷ 8 ∷ 10 ∷ 11 ∷ 12 ∷ 13 ∷ 14 ∷ 17 ∷ 17 ∷ 17 ∷ 17 ∷ 18 ∷ 18 ∷ [])
 unfolding runs
 refusals = refl
+
+-- FERS of a partition that is no slot, every fuse of its indicator stuck: 17 while a reply is awaited, before any burn, else 15
+abbrev fers-1 : (awaited : ℕ) → Outcome Effect (List ℕ)
+fers-1 awaited =
+    doneOf (image 2 12 60 8 [] (entry 0 6 0 7 ++ entry 6 6 0 1)) (replicate 10 0 ++ replicate 2 0xFFFF_FFFF) 0x4645_5253 (bytes4 0xFFFF_FECF ++ bytes4 0 ++ bytes4 1) 20 128
+    (state cells (no-key awaited))
+
+fers : map fers-1 (3 ∷ 0 ∷ []) ≡ outcome (refused 17) cells ∷ outcome (refused 15) cells ∷ []
+unfolding runs runOn burnsOf order wordsFrom stopsAfter goesOn burnWord burnCell
+fers = refl
 
 -- FSTA alone is carried out while a reply is awaited, a place waits and another is unsure
 waits : does small cells (full 3) 0x4653_5441 (bytes4 0xFFFF_FED2 ++ bytes4 0) 20 128 .refusal ≡ 0

@@ -1,7 +1,7 @@
 // The refusals of a mailbox command by itself, on a drive and with a request that were judged: 7 to 14 by
-// the command, then 17 and 18 by the engine's reply that is awaited and by the places. Each answers the
-// number, 0 where none applies. 15 is no test: FERS's erasure gives it. It rests on `drive`, `cache`,
-// `codec` and `erasure`.
+// the command, then 17 and 18 by the engine's reply that is awaited and by the places. A refusal is
+// answered by its number, 0 where none applies. 15 is no test: FERS's erasure gives it. It rests on
+// `drive`, `cache`, `codec` and `erasure`, and on the array of `context`.
 use cache::Sought;
 use codec::Command;
 use context::Context;
@@ -61,7 +61,7 @@ fn command_refusal(
     }
 }
 
-// Whether a command waits until the engine has replied.
+// Whether a command is refused until the engine has replied.
 fn is_other_than_fsta(command: Command) -> bool
     ensures { λ r. ⌜ r ≡ otherThanFsta command ⌝ }
 {

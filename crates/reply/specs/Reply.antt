@@ -1,7 +1,7 @@
 -- Request P5: "After each order the drive hands us the engine's reply: done, timed out, or failed with a vendor number (u32, not kept)".
 -- Assumes nothing.
 use Prim.Native.Nat.{ℕ}
-use mathlib.Core.Bool.{Bool, cond, not, _||_}
+use mathlib.Core.Bool.{Bool, cond, not}
 use mathlib.Core.List.{List, [], _∷_}
 use lib.Dec.{eqb}
 use Rattle.laws.specs.Refusals.{firstOf}
@@ -13,7 +13,8 @@ use Rattle.reply.specs.declared.Answer.{Answer}
 use Rattle.reply.specs.declared.Answer.the-variants.{Taken, Refused}
 
 -- what done makes of a waiting place: of a load, it "is held only after done"; of an unload or a clear, "done empties it"; ours: an awaited
--- number that we never write tells nothing of its order, and the place is unsure
+-- number that we never write tells nothing of its order, and the place is unsure. It is said of every waiting place: our calls leave more
+-- than one only under a clear (`history` `Waits`)
 abbrev pub kindDone : (awaited : ℕ) → ℕ
 kindDone awaited =
     cond (eqb awaited loadReply) held

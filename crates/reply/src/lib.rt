@@ -1,7 +1,7 @@
 // The engine's reply to an order, which the drive hands back: it settles the places that wait for it, and
 // is refused where none is awaited. `take_reply` answers for any words of the context, which is all that
 // it is lent. The definitions are in `specs/Reply`, the laws in `specs/Laws`. It rests on `cache` and
-// `engine`, and below them on `context` and `laws`.
+// `engine`, and on what lies below them.
 use context::Context;
 use engine::EngineReply;
 ghost use mathlib.Core.Path.{_≡_};

@@ -184,10 +184,11 @@ pub extern "C" fn sci_mailbox(
     numbers::flat_reply(mailbox::call(image, cells, marks, context, code, request, response, block))
 }
 
-// The engine's reply to the order that was given last, by its number, with the vendor's number.
+// The engine's reply to the order that awaits one, by its number, with the vendor's number. Answers 0 where
+// it was taken, else the refusal's number.
 #[no_mangle]
-pub extern "C" fn sci_engine_reply(context: &mut Context, number: u32, vendor: u32) -> u32
-    ensures { λ r. ⌜ outcome r (now (context .exit)) ≡ telling takenNumber (takingOf (engineReply number vendor) (now (context .entry))) ⌝ }
+pub extern "C" fn sci_engine_reply(context: &mut Context, reply: u32, vendor: u32) -> u32
+    ensures { λ r. ⌜ outcome r (now (context .exit)) ≡ telling takenNumber (takingOf (engineReply reply vendor) (now (context .entry))) ⌝ }
 {
-    replies::flat_taken(reply::take_reply(context, replies::reply_of(number, vendor)))
+    replies::flat_taken(reply::take_reply(context, replies::reply_of(reply, vendor)))
 }

@@ -5,7 +5,8 @@ use reply::Answer;
 ghost use mathlib.Core.Path.{_≡_};
 ghost use Rattle.sciambrunola.specs.Numbers.{engineReply, takenNumber};
 
-// The number of each reply. Any other counts as failed, 0 too: memory that nobody wrote is not done.
+// The numbers of done and timed out. Any other counts as failed, 3 as C calls it and 0 too: zeroed memory
+// is not done.
 const DONE: u32 = 1;
 
 const TIMED_OUT: u32 = 2;
