@@ -82,11 +82,11 @@
  * The key cache and the engine. CLKC, KLOD and KUNL have an order for the encryption
  * engine, and the engine's reply to it is awaited until the drive hands it in; also the
  * reply to a CLKC of an empty cache. A place of the cache is
- *   empty    and nothing is kept of a tag that it had
- *   waiting  from an order that names its tag, a load or an unload of it or a clear,
- *            until the reply
+ *   empty    at first, and after done to the unload of its tag or to a clear, a cut or
+ *            a restart; nothing is kept of a tag that it had
+ *   waiting  from a load or an unload of its tag, or a clear, until the reply
  *   held     after done to the load of its tag: the engine has the key
- *   unsure   after any other reply: the engine may have the key, or not
+ *   unsure   after a reply that was not done: the engine may have the key, or not
  * So the drive does this with every command that it hands to sci_mailbox:
  *   1. Where the answer has an order, hand it to the engine, with the block, and
  *      start a timer with the order's timeout.
@@ -106,8 +106,9 @@
  * To recover: after a reply that was not done the places that waited are unsure, and
  * while one is, KLOD and KUNL are refused, with 18 unless one of 1 to 14 applies. CLKC is
  * not. Give its order to the engine; done to it empties every place, and after any other
- * reply they are unsure again, and CLKC can be asked for again. Or restart the drive, and
- * the engine with it: sci_restart.
+ * reply they are unsure again, and CLKC can be asked for again. It clears every key, those
+ * of held places too: load them again. Or restart the drive, and the engine with it:
+ * sci_restart.
  * A late reply, to an order that the drive has already handed in as timed out, is
  * refused with 19 if no reply is awaited; but if another order is open by then, it would
  * be taken for that order's. A reply carries nothing by which the key block could tell:
@@ -524,7 +525,7 @@ sci_erasure sci_erase_cut(const uint8_t *image, size_t image_bytes,
  * place of the cache, drops an awaited reply of the engine, and changes nothing
  * else. It cannot be refused.
  * No order is given to the engine, which would keep its keys if it had not
- * restarted: to free a slot in operation use KUNL or CLKC.
+ * restarted: to free a slot in operation use KUNL or CLKC, and have it answered done.
  */
 void sci_restart(sci_context *context);
 

@@ -111,7 +111,7 @@ otherThanFsta Klod = true
 otherThanFsta Kunl = true
 otherThanFsta Fers = true
 otherThanFsta Fsta = false
-otherThanFsta Unknown = true
+otherThanFsta Unknown = false
 
 -- "KLOD or KUNL"
 abbrev pub klodOrKunl : Command → Bool

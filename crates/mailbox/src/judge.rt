@@ -71,7 +71,7 @@ fn is_other_than_fsta(command: Command) -> bool
         Command::Kunl => true,
         Command::Fers => true,
         Command::Fsta => false,
-        Command::Unknown => true,
+        Command::Unknown => false,
     }
 }
 
