@@ -13,7 +13,7 @@ use Rattle.laws.specs.Refusals.{first-elim, testAt}
 use Rattle.context.specs.State.{State, Outcome, refusing}
 use Rattle.map.specs.Map.{mapGood}
 use Rattle.drive.specs.Drive.{wholeArrays}
-use Rattle.cache.specs.Cache.{cacheOf, lowestPlace, awaits, placeAt}
+use Rattle.cache.specs.Cache.{cacheOf, lowestPlace, awaits, placeAt, AtRest}
 use Rattle.cache.specs.declared.Place.the-variants.{Waiting}
 use Rattle.cache.specs.declared.Sought.the-variants.{Empty, Tag}
 use Rattle.cache.specs.Laws.{has-tells}
@@ -166,5 +166,5 @@ orderly image marks start e calls =
       tags-apart = λ j k l m o p. sound .apart j k l m (is-occupied (cacheOf (now .context)) j o) (is-occupied (cacheOf (now .context)) k p);
       clear-done = λ timeout before q.
           let done = clear-done (now .context) sound timeout before q in
-          rw (reply-taken Done (now .context) (done .0)) (done .1);
+          subst (λ (o : Outcome ReplyAnswer (List ℕ)). AtRest (cacheOf (o .after))) (sym (reply-taken Done (now .context) (done .0))) (done .1);
     }
