@@ -21,8 +21,10 @@ use std::collections::BTreeSet;
 
 const SEED: u64 = 0x5EED_0005_0017_0019;
 const MOST_CALLS: usize = 24;
-/// So few that they come again.
-const TAGS: usize = 6;
+/// The tags of a sequence, so few that they come again or more than there are places, and how many
+/// of them it loads first, answered done.
+const STARTS: [(usize, usize); 8] =
+    [(6, 0), (6, 0), (6, 0), (6, 0), (24, 0), (24, 0), (24, 15), (24, 16)];
 
 /// The replies to an order, each with the calls that come before it.
 type Replies = fn(&mut Random) -> Vec<(usize, EngineReply)>;
@@ -45,8 +47,12 @@ const REFUSED: &str = "refused with 19";
 const DROPPED: &str = "awaited until a cut or restart";
 const OPEN: &str = "awaited to the end";
 
+/// From where it has to find back.
+const FULL: &str = "a full cache in the end";
+const FULL_UNSURE: &str = "a full cache in the end, some place unsure";
+
 /// Refusals that have to be met.
-const REFUSALS: [u32; 8] = [10, 11, 12, 14, 15, 17, 18, 19];
+const REFUSALS: [u32; 9] = [10, 11, 12, 13, 14, 15, 17, 18, 19];
 
 /// A reply on its way.
 struct Coming {
@@ -61,6 +67,8 @@ struct Player<'a, B> {
     random: Random,
     block: &'a mut B,
     lent: Lent,
+    /// How many tags there are, from 0 on.
+    tags: usize,
     account: Account,
     /// The manner of each order.
     manners: Vec<&'static str>,
@@ -77,8 +85,10 @@ pub fn play<B: KeyBlock>(
 ) -> (BTreeSet<String>, bool) {
     let mut random = Random::numbered(SEED, number);
     let lent = lent::of(drive(&mut random));
+    let (tags, loads) = random.pick(&STARTS);
     let (account, manners, coming, met) = (Account::default(), vec![], vec![], BTreeSet::new());
-    let mut player = Player { random, block, lent, account, manners, coming, met };
+    let mut player = Player { random, block, lent, tags, account, manners, coming, met };
+    (0..loads).for_each(|tag| player.order(mail(Klod, tag as u64, 0), Done, &mut see));
     for _ in 0..player.random.between(4, MOST_CALLS) {
         player.next(&mut see);
     }
@@ -98,7 +108,8 @@ pub fn possible() -> Vec<String> {
         };
         fates.iter().map(move |fate| format!("{manner}: {fate}"))
     });
-    manners.chain(answers()).chain(REFUSALS.map(refused)).collect()
+    let ends = [FULL, FULL_UNSURE].map(str::to_string);
+    manners.chain(answers()).chain(REFUSALS.map(refused)).chain(ends).collect()
 }
 
 fn refused(number: u32) -> String {
@@ -169,23 +180,33 @@ impl<B: KeyBlock> Player<'_, B> {
         self.met.insert(format!("{}: {fate}", self.manners[order]));
     }
 
+    /// Asks for an order, and hands in this reply to it, with none left to come.
+    fn order(&mut self, call: Call, reply: EngineReply, see: &mut impl FnMut(&Step)) {
+        self.make(call, see);
+        self.make(Call::EngineReply(reply), see);
+        self.coming.clear();
+    }
+
     /// The drive gives up an awaited reply, and asks for a clear until the engine is done.
     fn find_back(&mut self, see: &mut impl FnMut(&Step)) {
         if let Some(order) = self.account.open {
             self.meet(order, OPEN);
             self.make(Call::EngineReply(TimedOut), see);
         }
+        if self.lent.cache.lowest_empty().is_none() {
+            let unsure = self.lent.cache.any_unsure().then(|| FULL_UNSURE.to_string());
+            self.met.extend(unsure.into_iter().chain([FULL.to_string()]));
+        }
         let failed = [TimedOut, Failed(0)].into_iter().take(self.random.below(3));
         for reply in failed.chain([Done]) {
-            self.make(mail(Clkc, 0, 0), see);
-            self.make(Call::EngineReply(reply), see);
+            self.order(mail(Clkc, 0, 0), reply, see);
         }
     }
 
     /// A call of the drive. Where it can, KUNL names a tag that some place has.
     fn call(&mut self) -> Call {
         let (random, Lent { drive, cache, .. }) = (&mut self.random, &self.lent);
-        let (tag, partition) = (random.below(TAGS) as u64, commands::partition(random, drive));
+        let (tag, partition) = (random.below(self.tags) as u64, commands::partition(random, drive));
         match random.weighted(&[4, 4, 12, 1, 1, 1, 1, 1, 1]) {
             0 if cache.any_held() => mail(Kunl, random.pick(&cache.tags()), partition),
             choice @ 0..=4 => mail([Kunl, Clkc, Klod, Fers, Fsta][choice], tag, partition),
