@@ -13,6 +13,7 @@ pub struct Layout {
     /// Its cells in the whole array; the indicator is the last two.
     pub range: Range<usize>,
     pub zeroizable: bool,
+    pub slot: bool,
     /// Cells of a data word.
     word_cells: usize,
     pub bound: u32,
@@ -29,6 +30,7 @@ impl Layout {
         let layout = |entry: &Entry| Layout {
             range: entry.range(),
             zeroizable: entry.zeroizable(),
+            slot: entry.slot(),
             word_cells: if entry.kind == SOFTWARE { 1 } else { 2 },
             bound: map.bound() as u32,
         };

@@ -137,9 +137,24 @@ impl<'a> Seen<'a> {
         self.said.refusal() == Some(number)
     }
 
+    /// Whether it is of this name and was carried out.
+    pub fn carries_out(&self, name: &str) -> bool {
+        self.call.name() == name && self.said.refusal().is_none()
+    }
+
     /// Whether a reply was awaited before the call.
     pub fn awaited(&self) -> bool {
         self.before.cache.awaited.is_some()
+    }
+
+    /// Whether a direct command or an erasure of this name was carried out on a slot while the
+    /// reply to a clear of an empty cache was awaited.
+    pub fn in_empty_clear(&self, name: &str) -> bool {
+        let slot = self.named.map_or(false, |named| named.entry.slot())
+            || self.partition().map_or(false, |partition| partition.slot);
+        let empty_clear =
+            self.before.cache.awaited == Some(Awaited::Clear) && !self.before.cache.any_held();
+        empty_clear && slot && self.carries_out(name)
     }
 
     /// Of how many places this held before the call.
@@ -217,11 +232,10 @@ impl<'a> Seen<'a> {
 
     /// Whether this holds of some slot before the one that a reason names.
     pub fn passes_over(&self, holds: Holds) -> bool {
-        match (self.said, self.after.drive.map()) {
-            (Said::Reason(Ok(Blank { partition } | Torn { partition, .. })), Some(map)) => {
-                let mut before =
-                    map.entries().iter().zip(&self.partitions).take(partition as usize);
-                before.any(|(entry, p)| entry.slot() && holds(p, self.cells()))
+        match self.said {
+            Said::Reason(Ok(Blank { partition } | Torn { partition, .. })) => {
+                let mut before = self.partitions.iter().take(partition as usize);
+                before.any(|p| p.slot && holds(p, self.cells()))
             }
             _ => false,
         }

@@ -30,7 +30,10 @@ const MOODS: [Mood; 4] = [
     [4, 4, 3, 2, 2, 4, 8, 6, 10, 30, 6, 2, 1, 10, 4, 20, 5],
 ];
 
-/// The places of the engine's reply and of CLKC, the first mailbox command, among them.
+/// The places of WRITE, of the erasure, of the engine's reply and of CLKC, the first mailbox
+/// command, among them.
+const WRITE: usize = 6;
+const ERASURE: usize = 8;
 const REPLY: usize = 11;
 const CLKC: usize = 12;
 
@@ -93,12 +96,16 @@ impl Scene {
     }
 
     /// Which call is made. A third of those while a reply is awaited are the reply, and a sixth of
-    /// those while a place is unsure are CLKC, so that sequences get on.
+    /// those while a place is unsure are CLKC, so that sequences get on. A sixth of those while a
+    /// reply is awaited with every place empty are WRITE or an erasure, which few would be.
     fn choice(&mut self) -> usize {
         let cache = &self.lent.cache;
         match self.random.below(6) {
             0 | 1 if cache.awaited.is_some() => REPLY,
             2 if cache.any_unsure() => CLKC,
+            3 if cache.awaited.is_some() && !cache.any_held() => {
+                self.random.pick(&[WRITE, WRITE, ERASURE])
+            }
             _ => self.random.weighted(&self.mood),
         }
     }
@@ -116,9 +123,9 @@ impl Scene {
             3 => Call::Place(mostly_below(random, PLACES)),
             4 => Call::WriteMap(Text::any(random).bytes),
             5 => Call::Direct(Read { cell: commands::cell(random, drive) }),
-            6 => Call::Direct(commands::write(random, drive)),
+            WRITE => Call::Direct(commands::write(random, drive)),
             7 => Call::Direct(Zeroize { cell: commands::cell(random, drive) }),
-            chosen @ (8 | 9) => {
+            chosen @ (ERASURE | 9) => {
                 let partition = commands::partition(random, drive);
                 let cut = (chosen == 9).then(|| commands::cut_of(random, drive, partition));
                 Call::Erase(Erase { partition, cut })

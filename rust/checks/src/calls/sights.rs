@@ -49,7 +49,13 @@ pub const ALL: &[Row<Sight>] = &[
     ("cut refused with a reply awaited", |s| s.came == "cut erasure refused 10" && s.awaited()),
     ("restart with a reply awaited", |s| s.came == "restart nothing" && s.awaited()),
     ("erasure with a reply awaited", |s| s.came == "erasure erased" && s.awaited()),
+    ("READ with a reply awaited", |s| s.came == "READ word" && s.awaited()),
     ("WRITE with a reply awaited", |s| s.came == "WRITE word" && s.awaited()),
+    ("ZEROIZE with a reply awaited", |s| s.carries_out("ZEROIZE") && s.awaited()),
+    ("erasure of a slot, clear of an empty cache awaited", |s| s.in_empty_clear("erasure")),
+    ("WRITE to a slot, clear of an empty cache awaited", |s| s.in_empty_clear("WRITE")),
+    ("ZEROIZE in a slot, clear of an empty cache awaited", |s| s.in_empty_clear("ZEROIZE")),
+    ("FERS beside an unsure place", |s| s.came == "FERS none" && s.any(Place::is_unsure)),
     ("FSTA with a reply awaited", |s| s.came == "FSTA none" && s.awaited()),
     ("clear of an empty cache", |s| s.came == "CLKC clear" && !s.before.cache.any_held()),
     ("clear of held and unsure places", |s| {
