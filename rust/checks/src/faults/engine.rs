@@ -17,7 +17,7 @@ pub(super) struct Made<'a> {
 /// When a fault shows, and what it changes then; gives whether it showed.
 type Fault = fn(&mut Made) -> bool;
 
-const ALL: [Row<Fault>; 32] = [
+const ALL: [Row<Fault>; 35] = [
     ("a load's place held before done", |m| m.orders(Load) && m.waiting(Held)),
     ("an unload's place empty before done", |m| m.orders(Unload) && m.waiting(|_| Empty)),
     ("a clear that empties at once", |m| m.orders(Clear) && m.waiting(|_| Empty)),
@@ -35,6 +35,9 @@ const ALL: [Row<Fault>; 32] = [
     ("a reply that makes held places unsure", |m| m.takes() && m.turn(Place::is_held, Unsure)),
     ("a reply taken twice", |m| m.takes() && m.awaits(m.before.cache.awaited)),
     ("a reply taken where none is awaited", |m| {
+        m.refused(19) && m.seeing(|cache| cache.awaited = Some(Load))
+    }),
+    ("a reply taken where a place waits, though none is awaited", |m| {
         m.refused(19) && m.seeing(|cache| cache.awaited = cache.waits().then_some(Load))
     }),
     ("a waiting place told as held", |m| match &mut m.said {
@@ -56,6 +59,12 @@ const ALL: [Row<Fault>; 32] = [
     ("18 before 17", |m| m.refused(17) && m.applies(18) && m.refuse(18)),
     ("15 before 17", |m| m.refused(17) && m.applies(15) && m.refuse(15)),
     ("18 given to CLKC", |m| m.carries_out("CLKC") && m.before.cache.any_unsure() && m.refuse(18)),
+    ("18 given to FERS", |m| m.carries_out("FERS") && m.before.cache.any_unsure() && m.refuse(18)),
+    ("10 for an awaited reply with every place empty", |m| {
+        let on_fuses = matches!(m.call, Call::Direct(_) | Call::Erase(_));
+        let empty = m.before.cache.awaited.is_some() && !m.before.cache.any_held();
+        on_fuses && empty && m.seeing(|cache| cache.places[0] = Held(0))
+    }),
     ("14 for an unsure tag", |m| m.is("KUNL") && m.refused(18) && m.refuse(14)),
     ("a cut that keeps the awaited reply", |m| {
         m.is("cut erasure") && m.awaits(m.before.cache.awaited)
