@@ -2,9 +2,10 @@
  * The mailbox of the example, and the loop that its orders take:
  *   1. a command of the host goes to sci_mailbox, here by ask;
  *   2. where the answer has an order, that goes to the engine with the block, here by
- *      start_engine. Until the reply every command but FSTA is refused with 17;
+ *      start_engine. Until the reply every command but FSTA is refused (17);
  *   3. the engine's reply goes to sci_engine_reply, here by engine_replies. After any
- *      other than done KLOD and KUNL are refused with 18, until a CLKC is done.
+ *      other than done KLOD and KUNL are refused (18), until a CLKC is done.
+ * The numbers are 17 and 18 unless one of 1 to 14 applies.
  */
 #include "drive.h"
 
@@ -47,19 +48,26 @@ static sci_reply ask(uint32_t code, uint8_t *request, size_t request_bytes)
                        request, request_bytes, response, sizeof response, block, sizeof block);
 }
 
+/* What a place is called, an empty one apart. A kind that is not known is no better than
+ * unsure. */
+static const char *kind_name(uint32_t kind)
+{
+    switch (kind) {
+    case SCI_PLACE_WAITING: return "waiting";
+    case SCI_PLACE_HELD: return "held";
+    default: return "unsure";
+    }
+}
+
 /* Prints the places that are not empty, and answers how many there are. */
 uint32_t list_places(void)
 {
-    static const char *const names[] = {
-        [SCI_PLACE_WAITING] = "waiting", [SCI_PLACE_HELD] = "held",
-        [SCI_PLACE_UNSURE] = "unsure"
-    };
     uint32_t i, listed = 0;
     printf("places:");
     for (i = 0; i < SCI_PLACES; i++) {
         sci_place place = sci_cache_place(&context, i);
         if (place.kind != SCI_PLACE_EMPTY) {
-            printf("%s %" PRIu32 " %s", listed == 0 ? "" : ",", i, names[place.kind]);
+            printf("%s %" PRIu32 " %s", listed == 0 ? "" : ",", i, kind_name(place.kind));
             listed++;
         }
     }
@@ -87,21 +95,27 @@ static bool start_engine(const char *command, sci_reply order)
     return true;
 }
 
+/* What a reply is called. Any other number than the first two counts as failed. */
+static const char *reply_name(uint32_t reply)
+{
+    switch (reply) {
+    case SCI_ENGINE_DONE: return "done";
+    case SCI_ENGINE_TIMED_OUT: return "timed out";
+    default: return "failed";
+    }
+}
+
 /* For when the engine has replied to its order, or the drive's timer has run out, which
  * is SCI_ENGINE_TIMED_OUT. Only what the engine itself calls done is SCI_ENGINE_DONE, and
  * only to this order: a drive drops the late reply to one that has timed out. A number
  * that the engine failed with would stand in place of the 0; it is not kept. */
 bool engine_replies(uint32_t reply)
 {
-    static const char *const names[] = {
-        [SCI_ENGINE_DONE] = "done", [SCI_ENGINE_TIMED_OUT] = "timed out",
-        [SCI_ENGINE_FAILED] = "failed"
-    };
     uint32_t refusal = sci_engine_reply(&context, reply, 0);
     if (refusal != 0) {
         return failed("engine's reply", refusal);
     }
-    printf("engine: %s\n", names[reply]);
+    printf("engine: %s\n", reply_name(reply));
     (void)list_places();
     return true;
 }

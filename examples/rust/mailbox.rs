@@ -1,9 +1,11 @@
 //! The mailbox of the example, and the loop that its orders take:
 //! 1. a command of the host goes to `mailbox`, here by `ask`;
 //! 2. where the answer has an order, that goes to the engine with the block, here by
-//!    `start_engine`. Until the reply every command but FSTA is refused with 17;
+//!    `start_engine`. Until the reply every command but FSTA is refused (17);
 //! 3. the engine's reply goes to `engine_reply`, here by `engine_replies`. After any other
-//!    than done KLOD and KUNL are refused with 18, until a CLKC is done.
+//!    than done KLOD and KUNL are refused (18), until a CLKC is done.
+//!
+//! The numbers are 17 and 18 unless one of 1 to 14 applies.
 
 use crate::{failed, Drive, Step, MAP};
 use sciambrunola::{code, engine_reply, mailbox, EngineReply, Order, Place, Reply, PLACES};
