@@ -27,7 +27,8 @@ pub enum Place {
     /// A tag whose key the engine has: it replied done to the load.
     Held(u64),
     /// A tag whose key the engine may have or not: it timed out or failed. KLOD and KUNL
-    /// are refused (18) until CLKC, answered done, has emptied the place.
+    /// are refused, with 18 unless one of 1 to 14 applies, until CLKC, answered done, has
+    /// emptied the place.
     Unsure(u64),
 }
 

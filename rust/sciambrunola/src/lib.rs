@@ -189,7 +189,8 @@ pub fn restart(context: &mut Context) {
 ///
 /// KLOD, KUNL and CLKC have an order. Hand it to the engine with the block, and the
 /// engine's reply to [`engine_reply`]. Until then the place of the key waits, for CLKC
-/// every place that is not empty, and every command but FSTA is refused (17).
+/// every place that is not empty, and every command but FSTA is refused, with 17 unless
+/// one of 1 to 14 applies.
 #[allow(clippy::too_many_arguments)]
 #[inline]
 pub fn mailbox(
@@ -211,8 +212,8 @@ pub fn mailbox(
 /// changes: no reply is awaited any more, and the places that waited are
 /// - held, where the engine is done with a load;
 /// - empty, where it is done with an unload or a clear;
-/// - unsure, where it timed out or failed. Then KLOD and KUNL are refused (18) until CLKC,
-///   answered done, has emptied them.
+/// - unsure, where it timed out or failed. Then KLOD and KUNL are refused, with 18 unless
+///   one of 1 to 14 applies, until CLKC, answered done, has emptied them.
 ///
 /// The error is the refusal's number, 19 ([`refusal::NOT_AWAITED`]): no reply is awaited,
 /// and nothing has changed. A reply carries no number of its order: that a late one is not
