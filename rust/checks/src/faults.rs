@@ -1,7 +1,7 @@
 //! Copies of the model with one fault each, for the tests of the tests: one for each thing that a
 //! comparison looks at, for each clause of a history one that breaks it, wrong states, reasons and
-//! maps, and wrong places, orders and replies. That the proofs refuse faults of the key block itself
-//! is shown by the edits in `crates/*/must-fail`.
+//! maps, and wrong places, orders and replies. That the proofs refuse faults of the key block
+//! itself is shown by the edits in `crates/*/must-fail`.
 
 mod engine;
 mod maps;

@@ -11,11 +11,10 @@ use crate::proved::{self, Proved};
 use crate::{calls, context};
 use cases::Case;
 use model::{Call, Cut, Drive, Erase, KeyBlock, Lent, Request, Said};
-use sciambrunola::write_map;
 use sciambrunola::{
-    direct, engine_reply, erase, erase_cut, mailbox, partition, restart, states, why,
+    direct, engine_reply, erase, erase_cut, mailbox, partition, restart, states, why, write_map,
+    Command, Context,
 };
-use sciambrunola::{Command, Context};
 
 /// The bytes of stack that a call uses, or the most that some calls do.
 #[derive(Clone, Copy, Debug)]

@@ -118,8 +118,8 @@ const ODD: [Odd; 3] = [
         |words| words[..PLACES].iter().any(|kind| *kind > 3),
         "place unsure, WRITE refused 10, ZEROIZE refused 10, erasure refused 10, cut erasure cut, \
          restart nothing, engine reply taken, engine reply refused 19, CLKC clear, \
-         CLKC refused 17, KLOD refused 12, KLOD refused 13, KLOD refused 18, KUNL refused 14, KUNL refused 18, \
-         FERS refused 10, FSTA none",
+         CLKC refused 17, KLOD refused 12, KLOD refused 13, KLOD refused 18, KUNL refused 14, \
+         KUNL refused 18, FERS refused 10, FSTA none",
     ),
     (
         "a tag of an empty place",
