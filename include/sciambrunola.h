@@ -82,8 +82,8 @@
  * The key cache and the engine. CLKC, KLOD and KUNL have an order for the encryption
  * engine, and the engine's reply to it is awaited until the drive hands it in; also the
  * reply to a CLKC of an empty cache. A place of the cache is
- *   empty    at first, and after done to the unload of its tag or to a clear, a cut or
- *            a restart; nothing is kept of a tag that it had
+ *   empty    at first, after done to the unload of its tag or to a clear, and after a
+ *            cut or a restart; nothing is kept of a tag that it had
  *   waiting  from a load or an unload of its tag, or a clear, until the reply
  *   held     after done to the load of its tag: the engine has the key
  *   unsure   after a reply that was not done: the engine may have the key, or not

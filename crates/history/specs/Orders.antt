@@ -118,14 +118,14 @@ names (Clear timeout) k = true
 names (Load place timeout) k = eqb place k
 names (Unload place timeout) k = eqb place k
 
--- "the last order that named it was a load, answered done"
+-- the last order that named it was a load, answered done
 abbrev pub lastLoadDone : List Given → (k : ℕ) → Bool
 lastLoadDone [] k = false
 lastLoadDone (g ∷ orders) k = cond (names (g .order) k) (loads (g .order) && isDone (g .fate)) (lastLoadDone orders k)
 
 -- ---- the claim
 
--- "an empty context": all places are empty and no reply is awaited. It has the words of the cache, as every lent context has, which is an
+-- an empty context: all places are empty and no reply is awaited. It has the words of the cache, as every lent context has, which is an
 -- array of 33; of a shorter list the claim below would be false, since what is stored past its end is lost
 pub record EmptyContext (context : List ℕ) : Type 0 where
   pub at-rest : AtRest (cacheOf context)
@@ -133,16 +133,16 @@ pub record EmptyContext (context : List ℕ) : Type 0 where
 
 -- of the state now, after these orders
 pub record Orderly (image marks : List ℕ) (orders : List Given) (now : State) : Type 0 where
-  -- "a place is held only where the last order that named it was a load, answered done"
+  -- a place is held only where the last order that named it was a load, answered done
   pub held-by-load : (k tag : ℕ) → placeAt (cacheOf (now .context)) k ≡ Held tag → lastLoadDone orders k ≡ true
-  -- "a place waits only while a reply is awaited"
+  -- a place waits only while a reply is awaited
   pub waits-awaited : (k tag : ℕ) → placeAt (cacheOf (now .context)) k ≡ Waiting tag → awaits (cacheOf (now .context)) ≡ true
-  -- "at most one order is open", and one is exactly while a reply is awaited
+  -- at most one order is open, and one is exactly while a reply is awaited
   pub one-open : openIn orders ≤ 1
   pub open-awaited : (openIn orders ≡ 1) ↔ (awaits (cacheOf (now .context)) ≡ true)
-  -- "no tag stands in two places"
+  -- no tag stands in two places
   pub tags-apart : (j k : ℕ) → j < places → k < places → isAt (cacheOf (now .context)) Occupied j ≡ true → isAt (cacheOf (now .context)) Occupied k ≡ true
       → tagIn (cacheOf (now .context)) j ≡ tagIn (cacheOf (now .context)) k → j ≡ k
-  -- "after done to a clear every place is empty", and no reply is awaited
+  -- after done to a clear every place is empty, and no reply is awaited
   pub clear-done : (timeout : ℕ) (before : List Given) → orders ≡ given (Clear timeout) Open ∷ before
       → AtRest (cacheOf (after image marks (TakeReply Done) now .context))

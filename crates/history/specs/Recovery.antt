@@ -53,12 +53,13 @@ clkc-clears image marks s good arrays still =
     (sym (past-all (refusing refused (s .cells)) (accepted Clkc image marks request s) (mailboxTests image marks (codeOf Clkc) request 20 128 s)
     (ap not good, (ap not arrays, (refl, (refl, (refl, (refl, (refl, (still, (refl, tt)))))))))))
 
--- after any reply nothing is awaited and no place waits
+-- where none is awaited, no place waits
 idle-still : (context : List ℕ) {orders : List Given} → Standing context orders → awaits (cacheOf context) ≡ false → busy (cacheOf context) ≡ false
 idle-still context (idle e none z) o =
     rw o (not-yes (hasPlace (cacheOf context) Waiting) (λ y. let t = has-tells (cacheOf context) Waiting y in none _ (t .0) (is-waiting (cacheOf context) _ (t .1))))
 idle-still context (awaited order before e waits z) o = absurd (false≢true (sym o ∙ open-exactly context (awaited order before e waits z) .1 .0 (omega arith)))
 
+-- after any reply nothing is awaited and no place waits
 reply-still : (image marks : List ℕ) (s : State) (orders : List Given) → Sound orders (s .context) → (reply : EngineReply)
     → busy (cacheOf (after image marks (TakeReply reply) s .context)) ≡ false
 reply-still image marks s orders sound reply =

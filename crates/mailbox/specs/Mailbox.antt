@@ -89,7 +89,7 @@ loadTests image request s =
     ∷ (not (hasPlace (cacheOf (s .context)) Empty), 13)
     ∷ []
 
--- 14 "KUNL, tag not held"; "KUNL finds a waiting or unsure tag but is refused on it", by 17 or 18 (`unload-held`)
+-- 14 "KUNL, tag not held"; "KUNL finds a waiting or unsure tag but is refused on it" (`unload-held`), by 17 or 18 below
 abbrev pub unloadTests : (context request : List ℕ) → List (Bool × ℕ)
 unloadTests context request =
     (not (hasPlace (cacheOf context) (Tag (tagAt (requestFields Kunl) request))), 14)

@@ -172,8 +172,8 @@ fn carry_out(
     }
 }
 
-// What a call does: every refusal, the lowest first; and the burns of FERS. `room` and `block` are
-// the lengths of the response buffer and of the engine block.
+// What a call does: every refusal, in their order, 17 and 18 before 15; and the burns of FERS. `room` and
+// `block` are the lengths of the response buffer and of the engine block.
 fn effect_of(
     image: &[u8],
     cells: &mut [u32],
