@@ -1,0 +1,125 @@
+-- The table's laws: a table as the code reads it, a rotation, a fresh table that is made, and what each leaves. Assumes nothing.
+use Prim.Native.Nat.{ℕ, _+_, _-_, _^_, _≤_, _<_}
+use mathlib.Core.Path.{_≡_, refl, sym, ap, _∙_}
+use mathlib.Core.Bool.{Bool, true, false, not, _&&_, _||_}
+use mathlib.Core.List.{List, [], _∷_, _++_}
+use native.Mathlib.Omega.{arith}
+use lib.Dec.{eqb, ltb}
+use lib.ListN.{length, getD, set}
+use borrow.Author.Tests.{lt-ltb, le-ltb, ltb-true, leb-true, leb-false, eq-eqb, ne-eqb, not-false}
+use Rattle.laws.specs.Tests.{and}
+use Rattle.laws.specs.Refusals.{firstOf, numberOf, number-refuses, number-passes, Accepted, testAt, refusalAt, Past, refused-at, past-all}
+use Rattle.context.specs.Context.{countAt, entriesAt, greatestAt}
+use Rattle.context.specs.Laws.{part-at}
+use Rattle.context.specs.State.{outcome, refusing}
+use Rattle.handles.specs.Handles.{most, countGood, entryOf, handleOf, algorithmOf, Table, tableOf, handleAt, algorithmAt, holdsAt, usedUp, rotated, rotatedAt}
+use Rattle.handles.specs.Making.{distinct, greater, largest, made, makingTests, makingOf}
+use Rattle.handles.specs.declared.Answer.the-variants.{Made, Refused}
+
+-- ---- the table, at the words that were read
+
+module _ (context : List ℕ) where
+  pub count-read : getD context countAt 0 ≡ tableOf context .count
+  unfolding tableOf
+  count-read = refl
+
+  pub greatest-read : getD context greatestAt 0 ≡ tableOf context .greatest
+  unfolding tableOf
+  greatest-read = refl
+
+  pub entry-read : (k : ℕ) → k < most → getD context (entriesAt + k) 0 ≡ getD (tableOf context .entries) k 0
+  unfolding tableOf
+  entry-read k l = sym (part-at entriesAt most context k l)
+
+  pub handle-read : (k : ℕ) → k < most → handleOf (getD context (entriesAt + k) 0) ≡ handleAt (tableOf context) k
+  handle-read k l = ap handleOf (entry-read k l)
+
+  pub algorithm-read : (k : ℕ) → k < most → algorithmOf (getD context (entriesAt + k) 0) ≡ algorithmAt (tableOf context) k
+  algorithm-read k l = ap algorithmOf (entry-read k l)
+
+  pub holds-read : (handle k : ℕ) {is : ℕ} → is ≡ handleAt (tableOf context) k → (ltb k (getD context countAt 0) && eqb is handle) ≡ holdsAt (tableOf context) handle k
+  unfolding holdsAt
+  holds-read handle k e = rw (e, count-read)
+
+-- a table has at most three handles, and its greatest a number above it that has 32 bits
+pub good-most : (count : ℕ) → countGood count ≡ true → count ≤ most
+good-most count h = leb-true _ _ (and (ltb 0 count) _ h .1)
+
+pub next-fits : (t : Table) → usedUp t ≡ false → t .greatest + 1 < 2 ^ 32
+next-fits t o = omega (arith, leb-false (2 ^ 32 - 1) (t .greatest) o)
+
+-- ---- a rotation
+
+module _ (k number : ℕ) (context : List ℕ) where
+  pub rotated-in : k < most → set (set context (entriesAt + k) (entryOf number (algorithmAt (tableOf context) k))) greatestAt number ≡ rotatedAt k number context
+  unfolding rotated
+  rotated-in l = simp (lt-ltb _ _ l)
+
+  pub rotated-past : most ≤ k → context ≡ rotatedAt k number context
+  rotated-past l = simp (le-ltb _ _ l)
+
+-- ---- a table that is made
+
+-- the tests for at most three handles
+pub distinct-one : (handles : List ℕ) → length handles < 2 → true ≡ distinct handles
+distinct-one [] l = refl
+distinct-one (a ∷ []) l = refl
+distinct-one (a ∷ b ∷ rest) l = absurd (omega arith)
+
+pub distinct-not : (handles : List ℕ) → 2 ≤ length handles → getD handles 0 0 ≡ getD handles 1 0 → false ≡ distinct handles
+distinct-not [] l e = absurd (omega arith)
+distinct-not (a ∷ []) l e = absurd (omega arith)
+distinct-not (a ∷ b ∷ rest) l e = rw (eq-eqb a b e)
+
+pub distinct-two : (handles : List ℕ) → 2 ≤ length handles → length handles < 3 → (getD handles 0 0 ≡ getD handles 1 0 → ⊥) → true ≡ distinct handles
+distinct-two [] l m o = absurd (omega arith)
+distinct-two (a ∷ []) l m o = absurd (omega arith)
+distinct-two (a ∷ b ∷ []) l m o = rw (ne-eqb a b o)
+distinct-two (a ∷ b ∷ c ∷ rest) l m o = absurd (omega arith)
+
+pub distinct-three : (handles : List ℕ) → length handles ≡ 3 → (getD handles 0 0 ≡ getD handles 1 0 → ⊥)
+    → (not (eqb (getD handles 0 0) (getD handles 2 0)) && not (eqb (getD handles 1 0) (getD handles 2 0))) ≡ distinct handles
+distinct-three [] l o = absurd (omega arith)
+distinct-three (a ∷ []) l o = absurd (omega arith)
+distinct-three (a ∷ b ∷ []) l o = absurd (omega arith)
+distinct-three (a ∷ b ∷ c ∷ []) l o = rw (ne-eqb a b o) (by (eqb a c) (eqb b c))
+  where
+    by : (x y : Bool) → (not x && not y) ≡ (not (x || false) && (not (y || false) && (true && true)))
+    by true y = refl
+    by false true = refl
+    by false false = refl
+distinct-three (a ∷ b ∷ c ∷ d ∷ rest) l o = absurd (omega arith)
+
+greater-none : (n : ℕ) → greater n 0 ≡ n
+greater-none n = simp (le-ltb n 0 (omega arith))
+
+pub largest-three : (handles : List ℕ) → length handles ≤ 3 → greater (getD handles 0 0) (greater (getD handles 1 0) (getD handles 2 0)) ≡ largest handles
+largest-three [] l = refl
+largest-three (a ∷ []) l = refl
+largest-three (a ∷ b ∷ []) l = refl
+largest-three (a ∷ b ∷ c ∷ []) l = ap (λ (n : ℕ). greater a (greater b n)) (sym (greater-none c))
+largest-three (a ∷ b ∷ c ∷ d ∷ rest) l = absurd (omega arith)
+
+-- the number, by the place of the test that gives it, and the answer by the number
+module _ (handles algorithms context : List ℕ) where
+  pub making-at : (k : ℕ) → Past k (makingTests handles algorithms context) → testAt (makingTests handles algorithms context) k ≡ true
+      → refusalAt (makingTests handles algorithms context) k ≡ numberOf (makingTests handles algorithms context)
+  making-at k = refused-at (λ n. n) 0 k (makingTests handles algorithms context)
+
+  pub making-past : Past 4 (makingTests handles algorithms context) → 0 ≡ numberOf (makingTests handles algorithms context)
+  making-past = past-all (λ n. n) 0 (makingTests handles algorithms context)
+
+  pub making-refused : (n : ℕ) → n ≡ numberOf (makingTests handles algorithms context) → (n ≡ 0 → ⊥) → outcome (Refused n) context ≡ makingOf handles algorithms context
+  unfolding makingOf
+  making-refused n e o = sym (number-refuses (refusing Refused context) [] (outcome Made (made handles algorithms context)) (makingTests handles algorithms context) n e o)
+
+  making-passed : 0 ≡ numberOf (makingTests handles algorithms context) → Accepted (makingTests handles algorithms context) (outcome Made (made handles algorithms context))
+      (firstOf (refusing Refused context) (makingTests handles algorithms context ++ []) (outcome Made (made handles algorithms context)))
+  making-passed z = number-passes (refusing Refused context) [] (outcome Made (made handles algorithms context)) (makingTests handles algorithms context) refl z
+
+  pub making-made : 0 ≡ numberOf (makingTests handles algorithms context) → outcome Made (made handles algorithms context) ≡ makingOf handles algorithms context
+  unfolding makingOf
+  making-made z = sym (making-passed z .is)
+
+  pub making-most : 0 ≡ numberOf (makingTests handles algorithms context) → length handles ≤ most
+  making-most z = good-most (length handles) (not-false _ (making-passed z .none 1))
