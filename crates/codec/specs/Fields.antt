@@ -1,5 +1,5 @@
--- Document 01, "Mailbox", the table: the commands, their codes, and one field list for each request and each response, from which
--- requests are read and responses written. Assumes nothing.
+-- Document 01, "Mailbox", the table, and request P6's two messages: the commands, their codes, and one field list for each request and
+-- each response, from which requests are read and responses written. Assumes nothing.
 use Prim.Native.Nat.{ℕ, _+_, _*_, _^_}
 use mathlib.Core.Path.{_≡_}
 use mathlib.Core.Bool.{Bool, true, false, cond, _||_}
@@ -11,7 +11,7 @@ use Rattle.endian.specs.Endian.{u32At, bytes4}
 use Rattle.chksum.specs.Chksum.{summed}
 use Rattle.codec.specs.declared.Numbers.{Numbers}
 use Rattle.codec.specs.declared.Command.{Command}
-use Rattle.codec.specs.declared.Command.the-variants.{Clkc, Klod, Kunl, Fers, Fsta, Unknown}
+use Rattle.codec.specs.declared.Command.the-variants.{Clkc, Klod, Kunl, Fers, Fsta, Ehdl, Rhpk, Unknown}
 
 -- ---- the column "code"
 
@@ -22,6 +22,8 @@ codeOf Klod = 0x4B4C_4F44
 codeOf Kunl = 0x4B55_4E4C
 codeOf Fers = 0x4645_5253
 codeOf Fsta = 0x4653_5441
+codeOf Ehdl = 0x4548_444C
+codeOf Rhpk = 0x5248_504B
 codeOf Unknown = 0
 
 -- "The code names the command"
@@ -32,7 +34,9 @@ commandOf code =
     (cond (eqb code (codeOf Kunl)) Kunl
     (cond (eqb code (codeOf Fers)) Fers
     (cond (eqb code (codeOf Fsta)) Fsta
-    Unknown))))
+    (cond (eqb code (codeOf Ehdl)) Ehdl
+    (cond (eqb code (codeOf Rhpk)) Rhpk
+    Unknown))))))
 
 -- the codes that 3 does not refuse
 abbrev pub known : Command → Bool
@@ -41,11 +45,13 @@ known Klod = true
 known Kunl = true
 known Fers = true
 known Fsta = true
+known Ehdl = true
+known Rhpk = true
 known Unknown = false
 
 -- ---- fields
 
--- the names of the table's fields
+-- the names of the table's fields; request P6's are document 003's, `handle` and `hpke_algorithm` with their place in the list
 pub data Field : Type 0 where
   Chksum : Field
   Reserved : Field
@@ -60,6 +66,14 @@ pub data Field : Type 0 where
   First-short : Field
   Active-slot : Field
   Hek-available : Field
+  Hpke-handle-count : Field
+  Handle-0 : Field
+  Hpke-algorithm-0 : Field
+  Handle-1 : Field
+  Hpke-algorithm-1 : Field
+  Handle-2 : Field
+  Hpke-algorithm-2 : Field
+  Hpke-handle : Field
   deriving Discrete as field-discrete
 
 -- one field
@@ -82,7 +96,13 @@ asked Klod = Cmd-timeout ∷ Tag-low ∷ Tag-high ∷ Mek ∷ []
 asked Kunl = Cmd-timeout ∷ Tag-low ∷ Tag-high ∷ []
 asked Fers = Partition ∷ []
 asked Fsta = []
+asked Ehdl = []
+asked Rhpk = Hpke-handle ∷ []
 asked Unknown = []
+
+-- request P6, EHDL: "count, then handle and algorithm for each", of at most three
+abbrev pub listed : (count : ℕ) → List Field
+listed count = take (2 * count) (Handle-0 ∷ Hpke-algorithm-0 ∷ Handle-1 ∷ Hpke-algorithm-1 ∷ Handle-2 ∷ Hpke-algorithm-2 ∷ [])
 
 -- the column "response after reserved", by what the response is to hold
 abbrev pub answered : Command → Numbers → List Field
@@ -91,6 +111,8 @@ answered Klod numbers = Place ∷ []
 answered Kunl numbers = []
 answered Fers numbers = Short-pairs ∷ First-short ∷ []
 answered Fsta numbers = Active-slot ∷ Hek-available ∷ []
+answered Ehdl numbers = Hpke-handle-count ∷ listed (numbers .first)
+answered Rhpk numbers = Hpke-handle ∷ []
 answered Unknown numbers = []
 
 -- "Every request begins chksum, reserved; every response chksum, fips_status (0), reserved (0)"
@@ -146,9 +168,9 @@ joined (part ∷ parts) = part ++ joined parts
 abbrev pub written : (numbers : List ℕ) → List ℕ
 written numbers = joined (map bytes4 numbers)
 
--- the numbers of a response, as many as its list has fields after reserved, and behind them zeros
+-- the numbers of a response, in the order of its fields after reserved; those past its list are not written
 abbrev pub twoNumbers : (first second : ℕ) → Numbers
-twoNumbers first second = record { first = first; second = second }
+twoNumbers first second = record { first = first; second = second; third = 0; fourth = 0; fifth = 0; sixth = 0; seventh = 0 }
 
 abbrev pub oneNumber : (first : ℕ) → Numbers
 oneNumber first = twoNumbers first 0
@@ -157,7 +179,7 @@ abbrev pub noNumbers : Numbers
 noNumbers = oneNumber 0
 
 abbrev pub numbersIn : Numbers → List ℕ
-numbersIn numbers = numbers .first ∷ numbers .second ∷ []
+numbersIn n = n .first ∷ n .second ∷ n .third ∷ n .fourth ∷ n .fifth ∷ n .sixth ∷ n .seventh ∷ []
 
 -- what the fields of a response after chksum hold, in the list's order: "fips_status (0), reserved (0)", and the command's own
 abbrev pub heldBy : Command → Numbers → List ℕ
@@ -171,6 +193,6 @@ responseOf command numbers = summed (written (heldBy command numbers))
 abbrev pub responseIn : Command → Numbers → (buffer : List ℕ) → List ℕ
 responseIn command numbers buffer = responseOf command numbers ++ drop (lengthOf (responseFields command numbers)) buffer
 
--- the least response buffer, in which every response has room
+-- the least response buffer, in which every response has room; request P6: "The smallest response buffer becomes 40 bytes"
 abbrev pub leastRoom : ℕ
-leastRoom = 20
+leastRoom = 40

@@ -20,8 +20,8 @@ use Rattle.chksum.specs.Chksum.{closed, responseSum}
 use Rattle.chksum.specs.Laws.{closed-is}
 use Rattle.codec.specs.declared.Numbers.{Numbers}
 use Rattle.codec.specs.declared.Command.{Command}
-use Rattle.codec.specs.declared.Command.the-variants.{Clkc, Klod, Kunl, Fers, Fsta, Unknown}
-use Rattle.codec.specs.Fields.{codeOf, commandOf, known, Field, Mek, field-discrete, same, among, width, answered, requestFields, responseFields, lengthOf, placeOf}
+use Rattle.codec.specs.declared.Command.the-variants.{Clkc, Klod, Kunl, Fers, Fsta, Ehdl, Rhpk, Unknown}
+use Rattle.codec.specs.Fields.{codeOf, commandOf, known, Field, Mek, field-discrete, same, among, width, listed, answered, requestFields, responseFields, lengthOf, placeOf}
 use Rattle.codec.specs.Fields.{numberAt, TimeoutIn, TagIn, bytesAt, mekAt, joined, written, numbersIn, heldBy, responseOf, responseIn, leastRoom}
 use Rattle.codec.specs.Request.{requestTests}
 
@@ -31,7 +31,7 @@ record Own (code : ℕ) (command : Command) : Type 0 where
 
 -- "The code names the command", and only its own code does
 pub code-of : (code : ℕ) → known (commandOf code) ≡ true → code ≡ codeOf (commandOf code)
-code-of code = or Clkc (or Klod (or Kunl (or Fers (or Fsta (record { is = λ k. absurd (false≢true k) }))))) .is
+code-of code = or Clkc (or Klod (or Kunl (or Fers (or Fsta (or Ehdl (or Rhpk (record { is = λ k. absurd (false≢true k) }))))))) .is
   where
     or : (command : Command) {rest : Command} → Own code rest → Own code (cond (eqb code (codeOf command)) command rest)
     or command {rest} r = cond-keeps (Own code) (eqb code (codeOf command)) command rest (λ y. record { is = λ _. eqb-true _ _ y }) (λ _. r)
@@ -94,6 +94,8 @@ timeout-in request e Klod a = e
 timeout-in request e Kunl a = e
 timeout-in request e Fers a = absurd (false≢true a)
 timeout-in request e Fsta a = absurd (false≢true a)
+timeout-in request e Ehdl a = absurd (false≢true a)
+timeout-in request e Rhpk a = absurd (false≢true a)
 timeout-in request e Unknown a = absurd (false≢true a)
 
 pub tag-in : (request : List ℕ) {tag : ℕ} → tag ≡ u32At request 12 + 2 ^ 32 * u32At request 16 → TagIn request tag
@@ -102,6 +104,8 @@ tag-in request e Klod a = e
 tag-in request e Kunl a = e
 tag-in request e Fers a = absurd (false≢true a)
 tag-in request e Fsta a = absurd (false≢true a)
+tag-in request e Ehdl a = absurd (false≢true a)
+tag-in request e Rhpk a = absurd (false≢true a)
 tag-in request e Unknown a = absurd (false≢true a)
 
 -- what is made of each field stands at its place
@@ -147,6 +151,20 @@ mek-most fields message = simp length-take (omega arith)
 
 -- ---- a response
 
+-- the front of a list has no field that the whole has not; and no list of handles has more than six
+front-lacks : (field : Field) (k : ℕ) (fields : List Field) → among field fields ≡ false → among field (take k fields) ≡ false
+front-lacks field zero fields n = refl
+front-lacks field (suc k) [] n = refl
+front-lacks field (suc k) (f ∷ fields) n =
+    let both = neither (same field f) (among field fields) n in
+    rw (both .0) (front-lacks field k fields (both .1))
+
+pub list-long : (count : ℕ) → count ≤ 3 → 2 * count ≡ length (listed count)
+list-long count l = simp length-take (omega arith)
+
+pub list-full : (count : ℕ) → 3 ≤ count → 6 ≡ length (listed count)
+list-full count l = simp length-take (omega arith)
+
 -- it has no MEK, and numbers enough
 no-mek : (command : Command) (numbers : Numbers) → among Mek (responseFields command numbers) ≡ false
 no-mek Clkc numbers = refl
@@ -154,6 +172,8 @@ no-mek Klod numbers = refl
 no-mek Kunl numbers = refl
 no-mek Fers numbers = refl
 no-mek Fsta numbers = refl
+no-mek Ehdl numbers = front-lacks Mek (2 * numbers .first) (listed 3) refl
+no-mek Rhpk numbers = refl
 no-mek Unknown numbers = refl
 
 pub enough : (command : Command) (numbers : Numbers) → length (answered command numbers) ≤ length (numbersIn numbers)
@@ -162,6 +182,8 @@ enough Klod numbers = omega arith
 enough Kunl numbers = omega arith
 enough Fers numbers = omega arith
 enough Fsta numbers = omega arith
+enough Ehdl numbers = omega (arith, length-take (2 * numbers .first) (listed 3))
+enough Rhpk numbers = omega arith
 enough Unknown numbers = omega arith
 
 -- so that each field is a u32: the list's length, and the bytes of as many numbers

@@ -7,7 +7,7 @@ ghost use Prim.Native.Nat.{_+_, _*_, _≤_, _<_};
 ghost use lib.ListN.{length, take, getD};
 ghost use Rattle.laws.specs.Put.{Put};
 ghost use Rattle.laws.specs.Refusals.{numberOf};
-ghost use Rattle.codec.specs.Fields.{commandOf, known, Partition, asked, answered, lengthOf, requestFields, responseFields};
+ghost use Rattle.codec.specs.Fields.{commandOf, known, Partition, Hpke-handle, asked, listed, answered, lengthOf, requestFields, responseFields};
 ghost use Rattle.codec.specs.Fields.{numberAt, mekAt, TimeoutIn, TagIn, written, twoNumbers, oneNumber, noNumbers, numbersIn, responseIn, leastRoom};
 ghost use Rattle.codec.specs.Request.{requestTests};
 
@@ -18,6 +18,8 @@ pub enum Command {
     Kunl,
     Fers,
     Fsta,
+    Ehdl,
+    Rhpk,
     Unknown,
 }
 
@@ -31,9 +33,13 @@ const FERS: u32 = 0x4645_5253;
 
 const FSTA: u32 = 0x4653_5441;
 
+const EHDL: u32 = 0x4548_444C;
+
+const RHPK: u32 = 0x5248_504B;
+
 // Where a request's fields begin. Every request has the first two; CLKC, KLOD and KUNL have the
 // timeout, KLOD and KUNL the tag, at the same places; FERS has the partition where they have the
-// timeout.
+// timeout, RHPK the handle.
 const CHKSUM: usize = 0;
 
 const RESERVED: usize = 4;
@@ -41,6 +47,8 @@ const RESERVED: usize = 4;
 const CMD_TIMEOUT: usize = 8;
 
 const PARTITION: usize = 8;
+
+const HPKE_HANDLE: usize = 8;
 
 const TAG_LOW: usize = 12;
 
@@ -72,6 +80,12 @@ pub fn command_of(code: u32) -> Command
     if code == FSTA {
         return Command::Fsta;
     }
+    if code == EHDL {
+        return Command::Ehdl;
+    }
+    if code == RHPK {
+        return Command::Rhpk;
+    }
     Command::Unknown
 }
 
@@ -85,6 +99,8 @@ fn is_known(command: Command) -> bool
         Command::Kunl => true,
         Command::Fers => true,
         Command::Fsta => true,
+        Command::Ehdl => true,
+        Command::Rhpk => true,
         Command::Unknown => false,
     }
 }
@@ -99,6 +115,8 @@ fn asked_bytes(command: Command) -> usize
         Command::Kunl => 12,
         Command::Fers => 4,
         Command::Fsta => 0,
+        Command::Ehdl => 0,
+        Command::Rhpk => 4,
         Command::Unknown => 0,
     }
 }
@@ -136,6 +154,13 @@ pub fn partition_of(request: &[u8]) -> u32
     endian::u32_at(request, PARTITION)
 }
 
+// The handle in a request of RHPK.
+pub fn handle_of(request: &[u8]) -> u32
+    ensures { λ r. ⌜ r ≡ numberAt (requestFields Command.Rhpk) Hpke-handle (now (request .entry)) ⌝ }
+{
+    endian::u32_at(request, HPKE_HANDLE)
+}
+
 // The tag in a request, by the list of every command that has one.
 pub fn tag_of(request: &[u8]) -> u64
     ensures { λ r. ⌜ TagIn (now (request .entry)) r ⌝ }
@@ -154,14 +179,19 @@ pub fn mek_of<'a>(request: &'a [u8]) -> &'a [u8]
 }
 
 // The least response buffer, in which every response has room.
-pub const LEAST_ROOM: usize = 20;
+pub const LEAST_ROOM: usize = 40;
 
-// The numbers of a response, as many as its list has fields after reserved, and behind them zeros.
-// The second is declared first: otherwise both lie as in an erasure's answer, and the compiler reads
-// the two stores that were just made by one load, for which the processor waits (DECISIONS 103).
+// The numbers of a response, in the order of its fields after reserved; those past its list are not
+// written. The second is declared first: otherwise both lie as in an erasure's answer, and the compiler
+// reads the two stores that were just made by one load, for which the processor waits (DECISIONS 103).
 pub struct Numbers {
     pub second: u32,
     pub first: u32,
+    pub third: u32,
+    pub fourth: u32,
+    pub fifth: u32,
+    pub sixth: u32,
+    pub seventh: u32,
 }
 
 // Numbers of a response: two, one, none.
@@ -171,6 +201,11 @@ pub fn two_numbers(first: u32, second: u32) -> Numbers
     Numbers {
         first: first,
         second: second,
+        third: 0,
+        fourth: 0,
+        fifth: 0,
+        sixth: 0,
+        seventh: 0,
     }
 }
 
@@ -186,6 +221,17 @@ pub fn no_numbers() -> Numbers
     one_number(0)
 }
 
+// The fields of a list of so many handles, with their count. No list has more than three.
+fn listed_count(count: u32) -> usize
+    ensures { λ r. ⌜ r ≡ 1 + length (listed count) ⌝ }
+{
+    if count < 3 {
+        1 + 2 * (count as usize)
+    } else {
+        7
+    }
+}
+
 // The fields of a command's response after reserved.
 fn number_count(command: Command, numbers: Numbers) -> usize
     ensures { λ r. ⌜ r ≡ length (answered command numbers) ⌝ }
@@ -196,6 +242,8 @@ fn number_count(command: Command, numbers: Numbers) -> usize
         Command::Kunl => 0,
         Command::Fers => 2,
         Command::Fsta => 2,
+        Command::Ehdl => listed_count(numbers.first),
+        Command::Rhpk => 1,
         Command::Unknown => 0,
     }
 }
@@ -205,10 +253,14 @@ fn number_at(numbers: Numbers, k: usize) -> u32
     requires { ⌜ k < length (numbersIn numbers) ⌝ }
     ensures { λ r. ⌜ r ≡ getD (numbersIn numbers) k 0 ⌝ }
 {
-    if k == 0 {
-        numbers.first
-    } else {
-        numbers.second
+    match k {
+        0 => numbers.first,
+        1 => numbers.second,
+        2 => numbers.third,
+        3 => numbers.fourth,
+        4 => numbers.fifth,
+        5 => numbers.sixth,
+        _ => numbers.seventh,
     }
 }
 
