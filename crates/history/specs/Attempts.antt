@@ -24,7 +24,7 @@ use Rattle.codec.specs.declared.Command.the-variants.{Fers}
 use Rattle.codec.specs.Fields.{codeOf, responseFields, lengthOf, responseOf, responseIn}
 use Rattle.codec.specs.Request.{requestTests}
 use Rattle.codec.specs.Laws.{response-long}
-use Rattle.mailbox.specs.declared.Effect.{Effect}
+use Rattle.mailbox.specs.declared.effects.Effect.{Effect}
 use Rattle.mailbox.specs.declared.Reply.the-variants.{Refused, Accepted as Accepted′}
 use Rattle.mailbox.specs.Laws.{fers-orders}
 use Rattle.mailbox.specs.Mailbox.{refused, fersOf, partitionIn, accepted, mailboxTests, doneOf, contextAfter, responseAfter, replyOf, Lent, lent, writtenOut}

@@ -22,7 +22,7 @@ use Rattle.erasure.specs.Ends.{NoneSet, stops-exactly}
 use Rattle.codec.specs.declared.Command.the-variants.{Fers}
 use Rattle.codec.specs.Fields.{codeOf, commandOf}
 use Rattle.codec.specs.Laws.{code-of}
-use Rattle.mailbox.specs.declared.Effect.{Effect}
+use Rattle.mailbox.specs.declared.effects.Effect.{Effect}
 use Rattle.mailbox.specs.Laws.{fers-or-plain}
 use Rattle.mailbox.specs.Told.{mailbox-elim}
 use Rattle.mailbox.specs.Mailbox.{refused, fersOf, partitionIn, accepted, doneOf, replyOf}

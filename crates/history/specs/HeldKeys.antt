@@ -39,7 +39,7 @@ use Rattle.erasure.specs.declared.Answer.{Answer as Erasure}
 use Rattle.erasure.specs.Erasure.{eraseTests, never, runOn, unburned, burning, eraseOf, uncutOf, isCut}
 use Rattle.erasure.specs.Parts.{Apart, run-apart}
 use Rattle.erasure.specs.Cuts.{whole-by}
-use Rattle.mailbox.specs.declared.Effect.{Effect}
+use Rattle.mailbox.specs.declared.effects.Effect.{Effect}
 use Rattle.mailbox.specs.Laws.{fers-orders}
 use Rattle.mailbox.specs.Told.{mailbox-elim}
 use Rattle.mailbox.specs.Mailbox.{partitionIn, accepted, ownTests, stateAfter}

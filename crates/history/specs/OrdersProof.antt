@@ -35,7 +35,7 @@ use Rattle.engine.specs.declared.EngineReply.the-variants.{Done}
 use Rattle.codec.specs.declared.Command.{Command as Code}
 use Rattle.codec.specs.declared.Command.the-variants.{Clkc, Klod, Kunl, Fers, Fsta, Unknown}
 use Rattle.codec.specs.Fields.{commandOf, known, Cmd-timeout, requestFields, numberAt, tagAt}
-use Rattle.mailbox.specs.declared.Effect.{Effect}
+use Rattle.mailbox.specs.declared.effects.Effect.{Effect}
 use Rattle.mailbox.specs.declared.Reply.{Reply}
 use Rattle.mailbox.specs.declared.Reply.the-variants.{Refused, Accepted}
 use Rattle.mailbox.specs.Told.{mailbox-elim}

@@ -22,7 +22,7 @@ use Rattle.engine.specs.declared.EngineReply.the-variants.{Done}
 use Rattle.codec.specs.declared.Command.the-variants.{Clkc}
 use Rattle.codec.specs.Fields.{codeOf}
 use Rattle.codec.specs.Request.{requestTests}
-use Rattle.mailbox.specs.declared.Effect.{Effect}
+use Rattle.mailbox.specs.declared.effects.Effect.{Effect}
 use Rattle.mailbox.specs.Mailbox.{refused, accepted, mailboxTests, doneOf, contextAfter}
 use Rattle.reply.specs.declared.Answer.{Answer as ReplyAnswer}
 use Rattle.reply.specs.Reply.{replied, takingOf}

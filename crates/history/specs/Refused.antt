@@ -34,7 +34,7 @@ use Rattle.erasure.specs.Ends.{stops-same}
 use Rattle.codec.specs.declared.Command.{Command as Code}
 use Rattle.codec.specs.declared.Command.the-variants.{Fers}
 use Rattle.codec.specs.Fields.{commandOf, known, responseFields, lengthOf}
-use Rattle.mailbox.specs.declared.Effect.{Effect}
+use Rattle.mailbox.specs.declared.effects.Effect.{Effect}
 use Rattle.mailbox.specs.declared.Reply.{Reply}
 use Rattle.mailbox.specs.declared.Reply.the-variants.{Refused, Accepted}
 use Rattle.mailbox.specs.Laws.{is-refused, fers-or-plain}

@@ -25,7 +25,7 @@ use Rattle.direct.specs.Direct.{wordOf, forbidden, directTests, cellsAfter, car
 use Rattle.direct.specs.Laws.{direct-at}
 use Rattle.drive.specs.Active.{Available, available-tells}
 use Rattle.codec.specs.Fields.{commandOf}
-use Rattle.mailbox.specs.declared.Effect.{Effect}
+use Rattle.mailbox.specs.declared.effects.Effect.{Effect}
 use Rattle.mailbox.specs.declared.Reply.{Reply}
 use Rattle.mailbox.specs.declared.Reply.the-variants.{Refused as RefusedCall, Accepted}
 use Rattle.mailbox.specs.Laws.{load-only}

@@ -8,9 +8,10 @@ use lib.Dec.{eqb, ltb}
 use lib.ListN.{length}
 use borrow.Author.Tests.{ltb-false, leb-false, eqb-true, eq-eqb, ne-eqb, not-false}
 use Rattle.laws.specs.Tests.{neither}
-use Rattle.laws.specs.Refusals.{firstOf, numberOf, number-refuses, number-passes, accepted-tells, first-elim, testAt, refusalAt, Past, refused-at}
-use Rattle.laws.specs.Refusals.{past-all, Applies, not-applies, Accepted as Passed, lacks, ascendFrom}
+use Rattle.laws.specs.Refusals.{firstOf, numberOf, number-refuses, number-passes, accepted-tells, first-elim, testAt}
+use Rattle.laws.specs.Refusals.{Applies, not-applies, Accepted as Passed, lacks, ascendFrom}
 use Rattle.context.specs.State.{State, state, withCells, withContext, Outcome, outcome, refusing, telling}
+use Rattle.handles.specs.Handles.{tableOf, hasTable}
 use Rattle.map.specs.declared.Header.{Header}
 use Rattle.drive.specs.Drive.{Whole, driveTests, checkOf}
 use Rattle.drive.specs.declared.Check.the-variants.{Ready, Refused as NotReady}
@@ -21,71 +22,31 @@ use Rattle.erasure.specs.Erasure.{uncutOf}
 use Rattle.engine.specs.declared.Order.{Order}
 use Rattle.engine.specs.declared.Order.the-variants.{Nothing}
 use Rattle.codec.specs.declared.Command.{Command}
-use Rattle.codec.specs.declared.Command.the-variants.{Clkc, Klod, Kunl, Fers, Fsta, Unknown}
+use Rattle.codec.specs.declared.Command.the-variants.{Clkc, Klod, Kunl, Fers, Fsta, Ehdl, Rhpk, Unknown}
 use Rattle.codec.specs.Fields.{known, requestFields, responseFields, lengthOf, commandOf, responseIn, leastRoom}
 use Rattle.codec.specs.Request.{requestTests}
-use Rattle.mailbox.specs.declared.Effect.{Effect}
+use Rattle.mailbox.specs.declared.effects.Effect.{Effect}
 use Rattle.mailbox.specs.declared.Reply.the-variants.{Refused, Accepted}
-use Rattle.mailbox.specs.Mailbox.{refused, fersOf, partitionIn, accepted, loadTests, unloadTests, commandTests, engineTests, ownTests}
-use Rattle.mailbox.specs.Mailbox.{buffersBad, laterTests, mailboxTests, doneOf, contextAfter, blockAfter}
+use Rattle.mailbox.specs.Mailbox.{refused, fersOf, partitionIn, accepted, ownTests}
+use Rattle.mailbox.specs.Mailbox.{lentBad, laterTests, mailboxTests, doneOf, contextAfter, blockAfter}
 use Rattle.mailbox.specs.Mailbox.{Lent, lent, writtenOut, mailboxOf, loads, Fits, Allowed}
+use Rattle.mailbox.specs.Judging.{not-0}
 
--- ---- a command's own refusals: the number, by the place of the test that gives it
+-- ---- what a command may do, and what FERS does
 
-module _ (image request : List ℕ) (s : State) where
-  pub load-at : (k : ℕ) → Past k (loadTests image request s) → testAt (loadTests image request s) k ≡ true
-      → refusalAt (loadTests image request s) k ≡ numberOf (loadTests image request s)
-  load-at k = refused-at (λ n. n) 0 k (loadTests image request s)
+-- past 2 there is a table, and past the tests a command may be carried out
+pub lent-table : (room block : ℕ) (context : List ℕ) → lentBad room block context ≡ false → hasTable (tableOf context) ≡ true
+lent-table room block context o = not-false _ (neither (ltb room leastRoom) _ (neither (not (eqb block 128)) _ o .1) .1)
 
-  pub load-past : Past 3 (loadTests image request s) → 0 ≡ numberOf (loadTests image request s)
-  load-past = past-all (λ n. n) 0 (loadTests image request s)
-
-module _ (context request : List ℕ) where
-  pub unload-at : (k : ℕ) → Past k (unloadTests context request) → testAt (unloadTests context request) k ≡ true
-      → refusalAt (unloadTests context request) k ≡ numberOf (unloadTests context request)
-  unload-at k = refused-at (λ n. n) 0 k (unloadTests context request)
-
-  pub unload-past : Past 1 (unloadTests context request) → 0 ≡ numberOf (unloadTests context request)
-  unload-past = past-all (λ n. n) 0 (unloadTests context request)
-
-module _ (command : Command) (context : List ℕ) where
-  pub engine-at : (k : ℕ) → Past k (engineTests command context) → testAt (engineTests command context) k ≡ true
-      → refusalAt (engineTests command context) k ≡ numberOf (engineTests command context)
-  engine-at k = refused-at (λ n. n) 0 k (engineTests command context)
-
-  pub engine-past : Past 2 (engineTests command context) → 0 ≡ numberOf (engineTests command context)
-  engine-past = past-all (λ n. n) 0 (engineTests command context)
-
--- none is 0, of the command's nor of all
-not-0 : (command : Command) (image request : List ℕ) (s : State)
-    → (lacks 0 (commandTests command image request s) ≡ true) × (lacks 0 (ownTests command image request s) ≡ true)
-not-0 Clkc image request s = (refl, refl)
-not-0 Klod image request s = (refl, refl)
-not-0 Kunl image request s = (refl, refl)
-not-0 Fers image request s = (refl, refl)
-not-0 Fsta image request s = (refl, refl)
-not-0 Unknown image request s = (refl, refl)
-
--- so it is the command's, or else the engine's
-module _ (command : Command) (image request : List ℕ) (s : State) where
-  pub own-first : {n : ℕ} → n ≡ numberOf (commandTests command image request s) → (n ≡ 0 → ⊥) → n ≡ numberOf (ownTests command image request s)
-  own-first e o = sym (number-refuses (λ n. n) (engineTests command (s .context)) 0 (commandTests command image request s) _ e o)
-
-  pub own-then : {n : ℕ} → 0 ≡ numberOf (commandTests command image request s) → n ≡ numberOf (engineTests command (s .context))
-      → n ≡ numberOf (ownTests command image request s)
-  own-then z e =
-      e ∙ sym (number-passes (λ n. n) (engineTests command (s .context)) 0 (commandTests command image request s) (not-0 command image request s .0) z .is)
-
--- ---- what FERS does
-
--- past its tests its partition may be erased
-pub own-allowed : (command : Command) (image cells marks context request : List ℕ) → Whole image cells → length marks ≡ length cells
-    → ((k : ℕ) → testAt (ownTests command image request (state cells context)) k ≡ false) → Allowed command image cells marks request
-own-allowed command image cells marks context request whole long none = record {
+pub own-allowed : (command : Command) (image marks request : List ℕ) (s : State) → Whole image (s .cells) → length marks ≡ length (s .cells)
+    → hasTable (tableOf (s .context)) ≡ true → ((k : ℕ) → testAt (ownTests command image request s) k ≡ false) → Allowed command image marks request s
+own-allowed command image marks request s whole long table none = record {
   whole = whole;
+  table = table;
   erasable = λ e.
-      let tested : (k : ℕ) → testAt (ownTests Fers image request (state cells context)) k ≡ false = rw e at none in
+      let tested : (k : ℕ) → testAt (ownTests Fers image request s) k ≡ false = rw e at none in
       record { whole = whole; marks-long = long; partition = leb-false _ _ (tested 0); may = not-false _ (tested 1) };
+  left = λ e. let tested : (k : ℕ) → testAt (ownTests Rhpk image request s) k ≡ false = rw e at none in tested 3;
 }
 
 -- it does what its erasure answers and leaves
@@ -109,7 +70,7 @@ module _ (image marks : List ℕ) (code : ℕ) (request : List ℕ) (room block 
   callDone = accepted (commandOf code) image marks request s
 
   abbrev later : List (Bool × ℕ)
-  later = laterTests (commandOf code) image code request (buffersBad room block) s
+  later = laterTests (commandOf code) image code request (lentBad room block (s .context)) s
 
   pub judged-drive : (n : ℕ) → NotReady n ≡ checkOf image (s .cells) marks → outcome (refused n) (s .cells) ≡ doneOf image marks code request room block s
   unfolding doneOf
@@ -120,23 +81,23 @@ module _ (image marks : List ℕ) (code : ℕ) (request : List ℕ) (room block 
     unfolding doneOf
     past-drive = check-passed refuse later callDone image (s .cells) marks header e
 
-    pub judged-buffers : buffersBad room block ≡ true → outcome (refused 2) (s .cells) ≡ doneOf image marks code request room block s
-    judged-buffers b = sym (past-drive ∙ simp b)
+    pub judged-lent : lentBad room block (s .context) ≡ true → outcome (refused 2) (s .cells) ≡ doneOf image marks code request room block s
+    judged-lent b = sym (past-drive ∙ simp b)
 
-    module _ (b : buffersBad room block ≡ false) where
-      past-buffers : doneOf image marks code request room block s ≡ firstOf refuse (requestTests (commandOf code) code request ++ ownTests (commandOf code) image request s) callDone
-      past-buffers = past-drive ∙ simp b
+    module _ (b : lentBad room block (s .context) ≡ false) where
+      past-lent : doneOf image marks code request room block s ≡ firstOf refuse (requestTests (commandOf code) code request ++ ownTests (commandOf code) image request s) callDone
+      past-lent = past-drive ∙ simp b
 
       module _ (command : Command) (named : command ≡ commandOf code) where
         pub judged-request : (n : ℕ) → n ≡ numberOf (requestTests command code request) → (n ≡ 0 → ⊥) → outcome (refused n) (s .cells) ≡ doneOf image marks code request room block s
         judged-request n q o =
-            sym (past-buffers ∙ rw (← named) (number-refuses refuse (ownTests command image request s) (accepted command image marks request s) (requestTests command code request) n q o))
+            sym (past-lent ∙ rw (← named) (number-refuses refuse (ownTests command image request s) (accepted command image marks request s) (requestTests command code request) n q o))
 
         module _ (z : 0 ≡ numberOf (requestTests command code request)) where
           past-request : doneOf image marks code request room block s ≡ firstOf refuse (ownTests command image request s) (accepted command image marks request s)
           unfolding requestTests
           past-request =
-              past-buffers
+              past-lent
               ∙ rw (← named) (number-passes refuse (ownTests command image request s) (accepted command image marks request s) (requestTests command code request) refl z .is)
 
           -- with no test behind them
@@ -176,6 +137,8 @@ numbered-by Klod image marks code request bad s = record { ascend = refl; not-0 
 numbered-by Kunl image marks code request bad s = record { ascend = refl; not-0 = refl; not-15 = refl }
 numbered-by Fers image marks code request bad s = record { ascend = refl; not-0 = refl; not-15 = refl }
 numbered-by Fsta image marks code request bad s = record { ascend = refl; not-0 = refl; not-15 = refl }
+numbered-by Ehdl image marks code request bad s = record { ascend = refl; not-0 = refl; not-15 = refl }
+numbered-by Rhpk image marks code request bad s = record { ascend = refl; not-0 = refl; not-15 = refl }
 numbered-by Unknown image marks code request bad s = record { ascend = refl; not-0 = refl; not-15 = refl }
 
 -- only KLOD orders a load
@@ -185,6 +148,8 @@ load-only Klod image marks request s e = refl
 load-only Kunl image marks request s e = absurd (false≢true e)
 load-only Fers image marks request s e = absurd (false≢true (rw (fers-orders (uncutOf image (s .cells) marks (partitionIn request) .told)) at e))
 load-only Fsta image marks request s e = absurd (false≢true e)
+load-only Ehdl image marks request s e = absurd (false≢true e)
+load-only Rhpk image marks request s e = absurd (false≢true e)
 load-only Unknown image marks request s e = absurd (false≢true e)
 
 -- FERS alone burns, and can be refused past the tests
@@ -195,6 +160,8 @@ fers-or-plain Klod image marks request s k = inr (refl, refl)
 fers-or-plain Kunl image marks request s k = inr (refl, refl)
 fers-or-plain Fers image marks request s k = inl refl
 fers-or-plain Fsta image marks request s k = inr (refl, refl)
+fers-or-plain Ehdl image marks request s k = inr (refl, refl)
+fers-or-plain Rhpk image marks request s k = inr (refl, refl)
 fers-or-plain Unknown image marks request s k = absurd (false≢true k)
 
 -- an effect with a number is that refusal, and nothing else
@@ -229,7 +196,7 @@ module _ (image marks : List ℕ) (code : ℕ) (request : List ℕ) (l : Lent) {
   callTests = mailboxTests image marks code request (length (l .response)) (length (l .block)) (l .state)
 
   numbered : Numbered callTests
-  numbered = numbered-by (commandOf code) image marks code request (buffersBad (length (l .response)) (length (l .block))) (l .state)
+  numbered = numbered-by (commandOf code) image marks code request (lentBad (length (l .response)) (length (l .block)) (l .state .context)) (l .state)
 
   pub carried : e .refusal ≡ 0 → Carried code (e .order) request (l .response) (l .block)
   unfolding doneOf requestTests
@@ -239,17 +206,17 @@ module _ (image marks : List ℕ) (code : ℕ) (request : List ℕ) (l : Lent) {
       (λ n a. ap not (ne-eqb n 0 (λ q. not-applies 0 callTests (numbered .not-0) (subst (λ (m : ℕ). Applies m callTests) q a))))
       (ap (λ (o : Outcome Effect (List ℕ)). not (eqb (o .told .refusal) 0)) (sym d) ∙ ap not (eq-eqb _ _ z)) in
       let is : e .order ≡ accepted (commandOf code) image marks request (l .state) .told .order = ap (λ (o : Outcome Effect (List ℕ)). o .told .order) (d ∙ told .is) in
-      let buffers = neither (not (eqb (length (l .block)) 128)) (ltb (length (l .response)) leastRoom) (told .none 2) in
+      let lent-good = neither (not (eqb (length (l .block)) 128)) _ (told .none 2) in
       let asked : length request ≡ lengthOf (requestFields (commandOf code)) = eqb-true _ _ (not-false _ (told .none 4)) in
       record {
         asked = asked;
         fits = record {
-          block-long = eqb-true _ _ (not-false _ (buffers .0));
+          block-long = eqb-true _ _ (not-false _ (lent-good .0));
           request-long = λ y.
               subst (λ (command : Command). length request ≡ lengthOf (requestFields command))
               (load-only (commandOf code) image marks request (l .state) (rw is at y)) asked;
         };
-        room = ltb-false _ _ (buffers .1);
+        room = ltb-false _ _ (neither (ltb (length (l .response)) leastRoom) _ (lent-good .1) .0);
       }
 
   -- ---- what a call leaves

@@ -1,4 +1,5 @@
 pub mod Mailbox
+pub mod Judging
 pub mod Laws
 pub mod Told
 pub mod Vectors

@@ -1,4 +1,4 @@
--- Document 01, "Mailbox" and "Refusal numbers", and request P5: what a call does, and what it leaves. Assumes nothing.
+-- Document 01, "Mailbox" and "Refusal numbers", and requests P5 and P6: what a call does, and what it leaves. Assumes nothing.
 use Prim.Native.Nat.{ℕ}
 use mathlib.Core.Path.{_≡_}
 use mathlib.Core.Bool.{Bool, true, false, cond, not, _&&_, _||_}
@@ -11,30 +11,36 @@ use Rattle.drive.specs.Drive.{Whole, driveTests, activeSlot, slotNumber, availa
 use Rattle.drive.specs.declared.ActiveSlot.{ActiveSlot}
 use Rattle.cache.specs.Cache.{cacheOf, lowestPlace, hasPlace, busy, loadReply, unloadReply, waitingAt, clearing}
 use Rattle.cache.specs.declared.Sought.the-variants.{Empty, Unsure, Tag}
+use Rattle.handles.specs.Handles.{Table, tableOf, most, hasTable, handleAt, algorithmAt, lowestWith, hasHandle, usedUp, nextNumber, rotatedAt}
 use Rattle.erasure.specs.declared.Answer.{Answer}
 use Rattle.erasure.specs.declared.Answer.the-variants.{Ended, Cut, Refused as NotErased}
 use Rattle.erasure.specs.Erasure.{partitionTests, Erasable, uncutOf}
 use Rattle.codec.specs.declared.Numbers.{Numbers}
 use Rattle.codec.specs.declared.Command.{Command}
-use Rattle.codec.specs.declared.Command.the-variants.{Clkc, Klod, Kunl, Fers, Fsta, Unknown}
-use Rattle.codec.specs.Fields.{commandOf, Cmd-timeout, Partition, requestFields, responseFields, lengthOf, numberAt, tagAt, mekAt, noNumbers, oneNumber, twoNumbers, responseIn}
-use Rattle.codec.specs.Fields.{leastRoom}
+use Rattle.codec.specs.declared.Command.the-variants.{Clkc, Klod, Kunl, Fers, Fsta, Ehdl, Rhpk, Unknown}
+use Rattle.codec.specs.Fields.{commandOf, Cmd-timeout, Partition, Hpke-handle, requestFields, responseFields, lengthOf, numberAt, tagAt, mekAt}
+use Rattle.codec.specs.Fields.{noNumbers, oneNumber, twoNumbers, responseIn, leastRoom}
 use Rattle.codec.specs.Request.{requestTests}
 use Rattle.engine.specs.Engine.{engineBlock}
 use Rattle.engine.specs.declared.Order.{Order}
 use Rattle.engine.specs.declared.Order.the-variants.{Nothing, Clear, Load, Unload}
-use Rattle.mailbox.specs.declared.Effect.{Effect}
+use Rattle.mailbox.specs.declared.effects.Effect.{Effect}
 use Rattle.mailbox.specs.declared.Reply.{Reply}
 use Rattle.mailbox.specs.declared.Reply.the-variants.{Refused, Accepted}
 
--- ---- the effect of a command: what the engine is ordered, with the tag, and the numbers of the response
+-- ---- the effect of a command: what the engine is ordered, with the tag, the place of the table whose handle is replaced, and the numbers
+-- of the response
+
+-- no handle is replaced
+abbrev pub noPlace : ℕ
+noPlace = most
 
 abbrev pub effect : Command → Order → (tag : ℕ) → Numbers → Effect
-effect command order tag numbers = record { refusal = 0; command = command; order = order; tag = tag; numbers = numbers }
+effect command order tag numbers = record { refusal = 0; command = command; order = order; tag = tag; rotates = noPlace; numbers = numbers }
 
 -- "the engine order is none"
 abbrev pub refused : (number : ℕ) → Effect
-refused number = record { refusal = number; command = Unknown; order = Nothing; tag = 0; numbers = noNumbers }
+refused number = record { refusal = number; command = Unknown; order = Nothing; tag = 0; rotates = noPlace; numbers = noNumbers }
 
 -- CLKC: "clear" with the timeout
 abbrev pub clearOf : (request : List ℕ) → Effect
@@ -66,6 +72,30 @@ hekNumber slot = cond (available slot) 1 0
 abbrev pub statusOf : ActiveSlot → Effect
 statusOf slot = effect Fsta Nothing 0 (twoNumbers (slotNumber slot) (hekNumber slot))
 
+-- EHDL: "count, then handle and algorithm for each"
+abbrev pub tableNumbers : Table → Numbers
+tableNumbers t = record {
+  first = t .count;
+  second = handleAt t 0;
+  third = algorithmAt t 0;
+  fourth = handleAt t 1;
+  fifth = algorithmAt t 1;
+  sixth = handleAt t 2;
+  seventh = algorithmAt t 2;
+}
+
+abbrev pub listOf : Table → Effect
+listOf t = effect Ehdl Nothing 0 (tableNumbers t)
+
+-- the handle that a request of RHPK names
+abbrev pub handleIn : (request : List ℕ) → ℕ
+handleIn request = numberAt (requestFields Rhpk) Hpke-handle request
+
+-- RHPK: "the lowest place with the handle is meant"; its response is "the new handle"
+abbrev pub rotationOf : Table → (request : List ℕ) → Effect
+rotationOf t request =
+    record { refusal = 0; command = Rhpk; order = Nothing; tag = 0; rotates = lowestWith t (handleIn request); numbers = oneNumber (nextNumber t) }
+
 -- the partition that a request of FERS names
 abbrev pub partitionIn : (request : List ℕ) → ℕ
 partitionIn request = numberAt (requestFields Fers) Partition request
@@ -77,6 +107,8 @@ accepted Klod image marks request s = outcome (loadOf (s .context) request) (s .
 accepted Kunl image marks request s = outcome (unloadOf (s .context) request) (s .cells)
 accepted Fers image marks request s = telling fersOf (uncutOf image (s .cells) marks (partitionIn request))
 accepted Fsta image marks request s = outcome (statusOf (activeSlot image (s .cells))) (s .cells)
+accepted Ehdl image marks request s = outcome (listOf (tableOf (s .context))) (s .cells)
+accepted Rhpk image marks request s = outcome (rotationOf (tableOf (s .context)) request) (s .cells)
 accepted Unknown image marks request s = refusing refused (s .cells) 3
 
 -- ---- refusals
@@ -102,6 +134,8 @@ commandTests Klod image request s = loadTests image request s
 commandTests Kunl image request s = unloadTests (s .context) request
 commandTests Fers image request s = partitionTests image (partitionIn request) (s .context)
 commandTests Fsta image request s = []
+commandTests Ehdl image request s = []
+commandTests Rhpk image request s = []
 commandTests Unknown image request s = []
 
 -- "a mailbox command other than FSTA"
@@ -111,6 +145,8 @@ otherThanFsta Klod = true
 otherThanFsta Kunl = true
 otherThanFsta Fers = true
 otherThanFsta Fsta = false
+otherThanFsta Ehdl = true
+otherThanFsta Rhpk = true
 otherThanFsta Unknown = false
 
 -- "KLOD or KUNL"
@@ -120,6 +156,8 @@ klodOrKunl Klod = true
 klodOrKunl Kunl = true
 klodOrKunl Fers = false
 klodOrKunl Fsta = false
+klodOrKunl Ehdl = false
+klodOrKunl Rhpk = false
 klodOrKunl Unknown = false
 
 -- 17 "a mailbox command other than FSTA while a reply is awaited or a place waits", 18 "KLOD or KUNL while a place is unsure"
@@ -129,24 +167,41 @@ engineTests command context =
     ∷ (klodOrKunl command && hasPlace (cacheOf context) Unsure, 18)
     ∷ []
 
--- "Refusals, after 14 and before 15"
+-- 20 "no such handle", 21 "numbers used up", of RHPK
+abbrev pub rotationTests : Table → (request : List ℕ) → List (Bool × ℕ)
+rotationTests t request =
+    (not (hasHandle t (handleIn request)), 20)
+    ∷ (usedUp t, 21)
+    ∷ []
+
+abbrev pub handleTests : Command → (context request : List ℕ) → List (Bool × ℕ)
+handleTests Clkc context request = []
+handleTests Klod context request = []
+handleTests Kunl context request = []
+handleTests Fers context request = []
+handleTests Fsta context request = []
+handleTests Ehdl context request = []
+handleTests Rhpk context request = rotationTests (tableOf context) request
+handleTests Unknown context request = []
+
+-- request P5: "Refusals, after 14 and before 15"; request P6: "Refusals, after 19"
 abbrev pub ownTests : Command → (image request : List ℕ) → State → List (Bool × ℕ)
-ownTests command image request s = commandTests command image request s ++ engineTests command (s .context)
+ownTests command image request s = commandTests command image request s ++ (engineTests command (s .context) ++ handleTests command (s .context) request)
 
--- 2, "for the mailbox also": "block not 128 or response buffer under 20 bytes"
-abbrev pub buffersBad : (room block : ℕ) → Bool
-buffersBad room block = not (eqb block 128) || ltb room leastRoom
+-- 2, "for the mailbox also": "block not 128 or response buffer under 20 bytes", now 40; request P6: "a table count outside 1 to 3"
+abbrev pub lentBad : (room block : ℕ) (context : List ℕ) → Bool
+lentBad room block context = not (eqb block 128) || (ltb room leastRoom || not (hasTable (tableOf context)))
 
--- the refusals of a call after the drive's own: 2 for the buffers, 3 to 6 for the request, 7 to 14, 17 and 18 for the command
+-- the refusals of a call after the drive's own: 2 for the buffers and the table, 3 to 6 for the request, 7 to 21 for the command
 abbrev pub laterTests : Command → (image : List ℕ) (code : ℕ) (request : List ℕ) (bad : Bool) → State → List (Bool × ℕ)
 laterTests command image code request bad s = (bad, 2) ∷ (requestTests command code request ++ ownTests command image request s)
 
 -- all refusals of a call: 1 and 2 for the drive, then those; FERS's 15 is its run's, above
 abbrev pub mailboxTests : (image marks : List ℕ) (code : ℕ) (request : List ℕ) (room block : ℕ) → State → List (Bool × ℕ)
 mailboxTests image marks code request room block s =
-    driveTests image (s .cells) marks ++ laterTests (commandOf code) image code request (buffersBad room block) s
+    driveTests image (s .cells) marks ++ laterTests (commandOf code) image code request (lentBad room block (s .context)) s
 
--- "the lowest that applies is given, and none is given otherwise", where by request P5 17 and 18 are checked before 15
+-- "the lowest that applies is given, and none is given otherwise", where by requests P5 and P6 17 to 21 are checked before 15
 unfoldable pub doneOf : (image marks : List ℕ) (code : ℕ) (request : List ℕ) (room block : ℕ) → State → Outcome Effect (List ℕ)
 doneOf image marks code request room block s =
     firstOf (refusing refused (s .cells)) (mailboxTests image marks code request room block s) (accepted (commandOf code) image marks request s)
@@ -160,9 +215,9 @@ contextBy (Clear timeout) tag context = clearing context
 contextBy (Load place timeout) tag context = waitingAt place tag loadReply context
 contextBy (Unload place timeout) tag context = waitingAt place tag unloadReply context
 
--- the context
+-- the context: as the order makes it, with the handle replaced that a rotation names, by the number that its response tells (request P6)
 abbrev pub contextAfter : Effect → (context : List ℕ) → List ℕ
-contextAfter e context = contextBy (e .order) (e .tag) context
+contextAfter e context = rotatedAt (e .rotates) (e .numbers .first) (contextBy (e .order) (e .tag) context)
 
 -- the state: the cells as they were left, and the context
 abbrev pub stateAfter : Outcome Effect (List ℕ) → State → State
@@ -222,7 +277,10 @@ pub record Fits (order : Order) (request block : List ℕ) : Type 0 where
   pub block-long : length block ≡ 128
   pub request-long : loads order ≡ true → length request ≡ lengthOf (requestFields Klod)
 
--- what a command asks of the drive, where it is carried out: FERS, a partition that may be erased
-pub record Allowed (command : Command) (image cells marks request : List ℕ) : Type 0 where
-  pub whole : Whole image cells
-  pub erasable : command ≡ Fers → Erasable image cells marks (partitionIn request)
+-- what a command asks of the drive and of the table, where it is carried out: FERS, a partition that may be erased; EHDL, a table; RHPK, a
+-- number that is left
+pub record Allowed (command : Command) (image marks request : List ℕ) (s : State) : Type 0 where
+  pub whole : Whole image (s .cells)
+  pub table : hasTable (tableOf (s .context)) ≡ true
+  pub erasable : command ≡ Fers → Erasable image (s .cells) marks (partitionIn request)
+  pub left : command ≡ Rhpk → usedUp (tableOf (s .context)) ≡ false

@@ -30,16 +30,16 @@ use Rattle.erasure.specs.Ends.{indicatorCell, LeftBy, LeftAs, run-left-as}
 use Rattle.engine.specs.declared.Order.{Order}
 use Rattle.engine.specs.declared.Order.the-variants.{Nothing, Clear, Load, Unload}
 use Rattle.codec.specs.declared.Command.{Command}
-use Rattle.codec.specs.declared.Command.the-variants.{Clkc, Klod, Kunl, Fers, Fsta, Unknown}
+use Rattle.codec.specs.declared.Command.the-variants.{Clkc, Klod, Kunl, Fers, Fsta, Ehdl, Rhpk, Unknown}
 use Rattle.codec.specs.Fields.{known, Place, Short-pairs, First-short, Active-slot, Hek-available, requestFields, responseFields, numberAt, tagAt}
 use Rattle.codec.specs.Fields.{codeOf, commandOf, noNumbers, oneNumber, twoNumbers}
 use Rattle.codec.specs.Request.{requestTests}
 use Rattle.codec.specs.Laws.{response-reads}
-use Rattle.mailbox.specs.declared.Effect.{Effect}
+use Rattle.mailbox.specs.declared.effects.Effect.{Effect}
 use Rattle.mailbox.specs.declared.Reply.{Reply}
 use Rattle.mailbox.specs.declared.Reply.the-variants.{Refused, Accepted}
 use Rattle.mailbox.specs.Mailbox.{replyOf, refused, loadOf, fersOf, hekNumber, statusOf, accepted}
-use Rattle.mailbox.specs.Mailbox.{partitionIn, ownTests, buffersBad, mailboxTests, doneOf, responseAfter, Lent, mailboxOf}
+use Rattle.mailbox.specs.Mailbox.{partitionIn, ownTests, lentBad, mailboxTests, doneOf, responseAfter, Lent, mailboxOf}
 use Rattle.mailbox.specs.Laws.{numbered-by}
 
 -- ---- a host that reads the response by its list finds what is meant
@@ -78,7 +78,7 @@ module _ (image marks : List ℕ) (code : ℕ) (request : List ℕ) (room block 
 
   pub mailbox-lowest : GivenLowest (refusing refused (s .cells)) callTests callDone (doneOf image marks code request room block s)
   unfolding doneOf
-  mailbox-lowest = lowest-tells (refusing refused (s .cells)) callDone 1 callTests (numbered-by (commandOf code) image marks code request (buffersBad room block) s .ascend)
+  mailbox-lowest = lowest-tells (refusing refused (s .cells)) callDone 1 callTests (numbered-by (commandOf code) image marks code request (lentBad room block (s .context)) s .ascend)
 
   -- and so does the reply: no refusal has the number 0
   told-by : replyOf (doneOf image marks code request room block s .told) ≡ firstOf Refused callTests (replyOf (callDone .told))
@@ -87,7 +87,7 @@ module _ (image marks : List ℕ) (code : ℕ) (request : List ℕ) (room block 
       first-map (λ (d : Outcome Effect (List ℕ)). replyOf (d .told)) (refusing refused (s .cells)) callTests callDone
       ∙ first-agree (λ n. replyOf (refused n)) Refused callTests (replyOf (callDone .told))
       (λ n a.
-      let numbered = numbered-by (commandOf code) image marks code request (buffersBad room block) s in
+      let numbered = numbered-by (commandOf code) image marks code request (lentBad room block (s .context)) s in
       rw (ne-eqb n 0 (λ (z : n ≡ 0). not-applies 0 callTests (numbered .not-0) (subst (λ (m : ℕ). Applies m callTests) z a))))
 
   pub reply-first : GivenFirst Refused callTests (replyOf (callDone .told)) (replyOf (doneOf image marks code request room block s .told))
@@ -96,7 +96,7 @@ module _ (image marks : List ℕ) (code : ℕ) (request : List ℕ) (room block 
   pub reply-lowest : GivenLowest Refused callTests (replyOf (callDone .told)) (replyOf (doneOf image marks code request room block s .told))
   reply-lowest =
       subst (GivenLowest Refused callTests (replyOf (callDone .told))) (sym told-by)
-      (lowest-tells Refused (replyOf (callDone .told)) 1 callTests (numbered-by (commandOf code) image marks code request (buffersBad room block) s .ascend))
+      (lowest-tells Refused (replyOf (callDone .told)) 1 callTests (numbered-by (commandOf code) image marks code request (lentBad room block (s .context)) s .ascend))
 
   -- what holds of every refusal by the tests, none of which is 0 or 15, and of what an accepted call does, holds of what is done
   pub mailbox-elim : (P : Outcome Effect (List ℕ) → Type 0) → ((n : ℕ) → (n ≡ 0 → ⊥) → (n ≡ 15 → ⊥) → P (refusing refused (s .cells) n))
@@ -105,7 +105,7 @@ module _ (image marks : List ℕ) (code : ℕ) (request : List ℕ) (room block 
       → P (doneOf image marks code request room block s)
   unfolding doneOf requestTests
   mailbox-elim P by-test by-command =
-      let numbered = numbered-by (commandOf code) image marks code request (buffersBad room block) s in
+      let numbered = numbered-by (commandOf code) image marks code request (lentBad room block (s .context)) s in
       first-elim P (refusing refused (s .cells)) callTests callDone
       (λ n a.
       by-test n (λ e. not-applies 0 callTests (numbered .not-0) (subst (λ (m : ℕ). Applies m callTests) e a))
@@ -191,6 +191,8 @@ module _ (image marks : List ℕ) (code : ℕ) (request : List ℕ) (l : Lent) w
       (has-none c Waiting (neither (awaits c) (hasPlace c Waiting) (none 1) .1) _ (found .0)) (has-none c Unsure (none 2) _ (found .0))
   finds-held Fers k none = let done = uncutOf image (l .state .cells) marks (partitionIn request) in fers-no-unload (done .told) (done .after)
   finds-held Fsta k none = tt
+  finds-held Ehdl k none = tt
+  finds-held Rhpk k none = tt
   finds-held Unknown k none = absurd (false≢true k)
 
   -- the place that a call orders to unload is held, with the request's tag

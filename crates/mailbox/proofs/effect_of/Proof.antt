@@ -1,9 +1,9 @@
 -- `mailbox::effect_of` meets its contract: by where the judging ends. Assumes nothing.
 use mathlib.Core.Path.{sym, ap, _∙_}
 use Rattle.context.specs.State.{state, outcome}
-use Rattle.mailbox.specs.declared.Effect.{Effect}
+use Rattle.mailbox.specs.declared.effects.Effect.{Effect}
 use Rattle.drive.specs.Laws.{judged}
-use Rattle.mailbox.specs.Laws.{judged-drive, judged-buffers, judged-request, judged-own, judged-passed, judged-done, own-allowed}
+use Rattle.mailbox.specs.Laws.{judged-drive, judged-lent, judged-request, judged-own, judged-passed, judged-done, lent-table, own-allowed}
 use borrow.Author.Needs.{needs}
 use Rattle.mailbox.proofs.effect_of.Statement.{statement}
 use Rattle.mailbox.proofs.effect_of.Tie as tie
@@ -20,6 +20,9 @@ refuse-requires c κs = search needs
 enum-told : tie.Need-enum-told
 enum-told c = search needs
 
+is-lent-bad-requires : tie.Need-is-lent-bad-requires
+is-lent-bad-requires c κs = search needs
+
 refuse-requires-2 : tie.Need-refuse-requires-2
 refuse-requires-2 c κs = search needs
 
@@ -28,10 +31,12 @@ same-length c = search needs
 
 returns : tie.Need-returns
 returns c =
-    let ready = c .before .before in
+    let lent = c .before .before in
+    let ready = lent .before in
     let a = ready .before .before .before .before .before .before .before .before .args in
     ap (λ (e : Effect). outcome e (a .cells .now)) (c .refuse2 .ensures)
-    ∙ judged-buffers _ _ _ _ _ _ (state (a .cells .now) (a .context .now)) (sym (ready .enum-told .given .1) ∙ ready .before .before .check-drive .ensures) (c .before .if1 .taken)
+    ∙ judged-lent _ _ _ _ _ _ (state (a .cells .now) (a .context .now)) (sym (ready .enum-told .given .1) ∙ ready .before .before .check-drive .ensures)
+    (sym (lent .is-lent-bad .ensures) ∙ c .before .if1 .taken)
 
 command-of-requires : tie.Need-command-of-requires
 command-of-requires c κs = search needs
@@ -48,15 +53,16 @@ same-length-2 c = search needs
 returns-2 : tie.Need-returns-2
 returns-2 c =
     let request = c .before .before in
-    let ready = request .before .before .before in
+    let lent = request .before .before .before in
+    let ready = lent .before in
     let a = ready .before .before .before .before .before .before .before .before .args in
     ap (λ (e : Effect). outcome e (a .cells .now)) (c .refuse3 .ensures)
-    ∙ judged-request _ _ _ _ _ _ (state (a .cells .now) (a .context .now)) (sym (ready .enum-told .given .1) ∙ ready .before .before .check-drive .ensures) (request .before .before .if1 .left)
+    ∙ judged-request _ _ _ _ _ _ (state (a .cells .now) (a .context .now)) (sym (ready .enum-told .given .1) ∙ ready .before .before .check-drive .ensures) (sym (lent .is-lent-bad .ensures) ∙ request .before .before .if1 .left)
     _ (request .before .command-of .ensures) _ (request .request-refusal .ensures) (c .before .if2 .taken)
 
 own-refusal-requires : tie.Need-own-refusal-requires
 own-refusal-requires c κs =
-    let ready = c .before .before .before .before .before in
+    let ready = c .before .before .before .before .before .before in
     judged _ _ _ _ (sym (ready .enum-told .given .1) ∙ ready .before .before .check-drive .ensures) .whole
 
 refuse-requires-4 : tie.Need-refuse-requires-4
@@ -69,22 +75,26 @@ returns-3 : tie.Need-returns-3
 returns-3 c =
     let own = c .before .before in
     let request = own .before .before .before in
-    let ready = request .before .before .before in
+    let lent = request .before .before .before in
+    let ready = lent .before in
     let a = ready .before .before .before .before .before .before .before .before .args in
     ap (λ (e : Effect). outcome e (a .cells .now)) (c .refuse4 .ensures)
-    ∙ judged-own _ _ _ _ _ _ (state (a .cells .now) (a .context .now)) (sym (ready .enum-told .given .1) ∙ ready .before .before .check-drive .ensures) (request .before .before .if1 .left)
+    ∙ judged-own _ _ _ _ _ _ (state (a .cells .now) (a .context .now)) (sym (ready .enum-told .given .1) ∙ ready .before .before .check-drive .ensures) (sym (lent .is-lent-bad .ensures) ∙ request .before .before .if1 .left)
     _ (request .before .command-of .ensures) (sym (own .before .before .if2 .left) ∙ request .request-refusal .ensures) _ (own .own-refusal .ensures) (c .before .if3 .taken)
 
 carry-out-requires : tie.Need-carry-out-requires
 carry-out-requires c κs =
     let own = c .before .before in
     let request = own .before .before .before in
-    let ready = request .before .before .before in
+    let lent = request .before .before .before in
+    let ready = lent .before in
     let a = ready .before .before .before .before .before .before .before .before .args in
     let checked = sym (ready .enum-told .given .1) ∙ ready .before .before .check-drive .ensures in
     let drive = judged _ _ _ _ checked in
-    own-allowed _ (a .image .now) (a .cells .now) (a .marks .now) (a .context .now) (a .request .now) (drive .whole) (drive .marks-long ∙ sym (drive .whole .long))
-    (judged-passed _ _ _ _ (a .room) (a .block) (state (a .cells .now) (a .context .now)) checked (request .before .before .if1 .left)
+    let good = sym (lent .is-lent-bad .ensures) ∙ request .before .before .if1 .left in
+    own-allowed _ (a .image .now) (a .marks .now) (a .request .now) (state (a .cells .now) (a .context .now)) (drive .whole)
+    (drive .marks-long ∙ sym (drive .whole .long)) (lent-table (a .room) (a .block) (a .context .now) good)
+    (judged-passed _ _ _ _ (a .room) (a .block) (state (a .cells .now) (a .context .now)) checked good
     _ (request .before .command-of .ensures) (sym (own .before .before .if2 .left) ∙ request .request-refusal .ensures) (sym (c .before .if3 .left) ∙ own .own-refusal .ensures))
 
 same-length-4 : tie.Need-same-length-4
@@ -105,9 +115,10 @@ returns-5 : tie.Need-returns-5
 returns-5 c =
     let own = c .before .before .before .before .before in
     let request = own .before .before .before in
-    let ready = request .before .before .before in
+    let lent = request .before .before .before in
+    let ready = lent .before in
     let a = ready .before .before .before .before .before .before .before .before .args in
-    judged-done _ _ _ _ _ _ (state (a .cells .now) (a .context .now)) (sym (ready .enum-told .given .1) ∙ ready .before .before .check-drive .ensures) (request .before .before .if1 .left)
+    judged-done _ _ _ _ _ _ (state (a .cells .now) (a .context .now)) (sym (ready .enum-told .given .1) ∙ ready .before .before .check-drive .ensures) (sym (lent .is-lent-bad .ensures) ∙ request .before .before .if1 .left)
     _ (request .before .command-of .ensures) (sym (own .before .before .if2 .left) ∙ request .request-refusal .ensures) (sym (c .before .before .before .before .if3 .left) ∙ own .own-refusal .ensures)
     (c .before .before .carry-out .ensures)
 
@@ -119,6 +130,7 @@ effect-of-spec =
     enum-known-number
     refuse-requires
     enum-told
+    is-lent-bad-requires
     refuse-requires-2
     same-length
     returns

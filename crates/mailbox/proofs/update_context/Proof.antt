@@ -1,53 +1,21 @@
--- `mailbox::update_context` meets its contract: by the order. Assumes nothing.
+-- `mailbox::update_context` meets its contract: the order, then the rotation. Assumes nothing.
+use mathlib.Core.Path.{ap, _∙_}
+use Rattle.handles.specs.Handles.{rotatedAt}
 use borrow.Author.Needs.{needs}
 use Rattle.mailbox.proofs.update_context.Statement.{statement}
 use Rattle.mailbox.proofs.update_context.Tie as tie
 
-enum-told : tie.Need-enum-told
-enum-told c = search needs
+await-reply-requires : tie.Need-await-reply-requires
+await-reply-requires c κs = search needs
 
-enum-told-2 : tie.Need-enum-told-2
-enum-told-2 c = search needs
-
-wait-for-clear-requires : tie.Need-wait-for-clear-requires
-wait-for-clear-requires c κs = search needs
-
-enum-known-order : tie.Need-enum-known-order
-enum-known-order c = search needs
-
-wait-at-requires : tie.Need-wait-at-requires
-wait-at-requires c κs = search needs
-
-enum-known-order-2 : tie.Need-enum-known-order-2
-enum-known-order-2 c = search needs
-
-wait-at-requires-2 : tie.Need-wait-at-requires-2
-wait-at-requires-2 c κs = search needs
+rotate-requires : tie.Need-rotate-requires
+rotate-requires c κs = search needs
 
 returns : tie.Need-returns
-returns c = search needs
-
-returns-2 : tie.Need-returns-2
-returns-2 c = rw (c .before .before .enum-told2 .given .1) (c .wait-for-clear .ensures)
-
-returns-3 : tie.Need-returns-3
-returns-3 c = rw (c .before .before .before .order .given .1) (c .wait-at .ensures)
-
-returns-4 : tie.Need-returns-4
-returns-4 c = rw (c .before .before .before .order2 .given .1) (c .wait-at2 .ensures)
+returns c =
+    let ordered = c .before .before .before in
+    let e = ordered .before .before .args .effect in
+    c .rotate .ensures ∙ ap (rotatedAt (e .rotates) (e .numbers .first)) (ordered .await-reply .ensures)
 
 pub update-context-spec : {M : Type 1} → statement M
-update-context-spec =
-    tie.close
-    (tie.spec
-    enum-told
-    enum-told-2
-    wait-for-clear-requires
-    enum-known-order
-    wait-at-requires
-    enum-known-order-2
-    wait-at-requires-2
-    returns
-    returns-2
-    returns-3
-    returns-4)
+update-context-spec = tie.close (tie.spec await-reply-requires rotate-requires returns)

@@ -5,7 +5,7 @@ use mathlib.Core.Bool.{false, _&&_}
 use Rattle.cache.specs.Cache.{cacheOf, hasPlace, busy}
 use Rattle.cache.specs.declared.Sought.the-variants.{Unsure}
 use Rattle.mailbox.specs.Mailbox.{otherThanFsta, klodOrKunl}
-use Rattle.mailbox.specs.Laws.{engine-at, engine-past}
+use Rattle.mailbox.specs.Judging.{engine-at, engine-past}
 use borrow.Author.Needs.{needs}
 use Rattle.mailbox.proofs.judge.engine_refusal.Statement.{statement}
 use Rattle.mailbox.proofs.judge.engine_refusal.Tie as tie

@@ -7,7 +7,7 @@ use Rattle.cache.specs.Cache.{cacheOf, hasPlace}
 use Rattle.cache.specs.declared.Sought.the-variants.{Tag}
 use Rattle.codec.specs.Fields.{requestFields, tagAt}
 use Rattle.codec.specs.declared.Command.the-variants.{Klod}
-use Rattle.mailbox.specs.Laws.{load-at, load-past}
+use Rattle.mailbox.specs.Judging.{load-at, load-past}
 use borrow.Author.Needs.{needs}
 use Rattle.mailbox.proofs.judge.load_refusal.Statement.{statement}
 use Rattle.mailbox.proofs.judge.load_refusal.Tie as tie

@@ -6,7 +6,7 @@ use Rattle.cache.specs.Cache.{cacheOf, hasPlace}
 use Rattle.cache.specs.declared.Sought.the-variants.{Tag}
 use Rattle.codec.specs.Fields.{requestFields, tagAt}
 use Rattle.codec.specs.declared.Command.the-variants.{Kunl}
-use Rattle.mailbox.specs.Laws.{unload-at, unload-past}
+use Rattle.mailbox.specs.Judging.{unload-at, unload-past}
 use borrow.Author.Needs.{needs}
 use Rattle.mailbox.proofs.judge.unload_refusal.Statement.{statement}
 use Rattle.mailbox.proofs.judge.unload_refusal.Tie as tie

@@ -1,9 +1,9 @@
--- `mailbox::unload_effect` meets its contract: at what was read. Assumes nothing.
+-- `mailbox::effects::unload_effect` meets its contract: at what was read. Assumes nothing.
 use mathlib.Core.Path.{refl, _∙_}
 use Rattle.codec.specs.declared.Command.the-variants.{Kunl}
 use borrow.Author.Needs.{needs}
-use Rattle.mailbox.proofs.unload_effect.Statement.{statement}
-use Rattle.mailbox.proofs.unload_effect.Tie as tie
+use Rattle.mailbox.proofs.effects.unload_effect.Statement.{statement}
+use Rattle.mailbox.proofs.effects.unload_effect.Tie as tie
 
 tag-of-requires : tie.Need-tag-of-requires
 tag-of-requires c κs = search needs

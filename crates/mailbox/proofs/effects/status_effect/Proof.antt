@@ -1,8 +1,8 @@
--- `mailbox::status_effect` meets its contract: at the active slot. Assumes nothing.
+-- `mailbox::effects::status_effect` meets its contract: at the active slot. Assumes nothing.
 use mathlib.Core.Path.{_∙_}
 use borrow.Author.Needs.{needs}
-use Rattle.mailbox.proofs.status_effect.Statement.{statement}
-use Rattle.mailbox.proofs.status_effect.Tie as tie
+use Rattle.mailbox.proofs.effects.status_effect.Statement.{statement}
+use Rattle.mailbox.proofs.effects.status_effect.Tie as tie
 
 active-in-requires : tie.Need-active-in-requires
 active-in-requires c κs = search needs

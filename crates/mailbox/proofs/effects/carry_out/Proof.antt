@@ -1,10 +1,10 @@
--- `mailbox::carry_out` meets its contract: by the command. Assumes nothing.
+-- `mailbox::effects::carry_out` meets its contract: by the command. Assumes nothing.
 use mathlib.Core.Path.{sym, subst}
 use Rattle.erasure.specs.Erasure.{Erasable}
 use Rattle.mailbox.specs.Laws.{fers-does}
 use borrow.Author.Needs.{needs}
-use Rattle.mailbox.proofs.carry_out.Statement.{statement}
-use Rattle.mailbox.proofs.carry_out.Tie as tie
+use Rattle.mailbox.proofs.effects.carry_out.Statement.{statement}
+use Rattle.mailbox.proofs.effects.carry_out.Tie as tie
 
 enum-told : tie.Need-enum-told
 enum-told c = search needs
@@ -49,6 +49,18 @@ status-effect-requires c κs = search needs
 enum-told-6 : tie.Need-enum-told-6
 enum-told-6 c = search needs
 
+list-effect-requires : tie.Need-list-effect-requires
+list-effect-requires c κs = search needs
+
+enum-told-7 : tie.Need-enum-told-7
+enum-told-7 c = search needs
+
+rotate-effect-requires : tie.Need-rotate-effect-requires
+rotate-effect-requires c κs = c .before .before .before .before .before .before .pre .left (c .enum-told7 .given .1)
+
+enum-told-8 : tie.Need-enum-told-8
+enum-told-8 c = search needs
+
 refuse-requires : tie.Need-refuse-requires
 refuse-requires c κs = search needs
 
@@ -77,7 +89,13 @@ returns-5 : tie.Need-returns-5
 returns-5 c = rw (c .before .before .enum-told5 .given .1, c .status-effect .ensures)
 
 returns-6 : tie.Need-returns-6
-returns-6 c = rw (c .before .enum-told6 .given .1, c .refuse .ensures)
+returns-6 c = rw (c .before .enum-told6 .given .1, c .list-effect .ensures)
+
+returns-7 : tie.Need-returns-7
+returns-7 c = rw (c .before .enum-told7 .given .1, c .rotate-effect .ensures)
+
+returns-8 : tie.Need-returns-8
+returns-8 c = rw (c .before .enum-told8 .given .1, c .refuse .ensures)
 
 pub carry-out-spec : {M : Type 1} → statement M
 carry-out-spec =
@@ -96,6 +114,10 @@ carry-out-spec =
     enum-told-5
     status-effect-requires
     enum-told-6
+    list-effect-requires
+    enum-told-7
+    rotate-effect-requires
+    enum-told-8
     refuse-requires
     returns
     returns-2
@@ -104,4 +126,6 @@ carry-out-spec =
     returns-4
     same-length-2
     returns-5
-    returns-6)
+    returns-6
+    returns-7
+    returns-8)

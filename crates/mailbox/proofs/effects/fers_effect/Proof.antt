@@ -1,8 +1,8 @@
--- `mailbox::fers_effect` meets its contract: by the answer. Assumes nothing.
+-- `mailbox::effects::fers_effect` meets its contract: by the answer. Assumes nothing.
 use mathlib.Core.Path.{_∙_}
 use borrow.Author.Needs.{needs}
-use Rattle.mailbox.proofs.fers_effect.Statement.{statement}
-use Rattle.mailbox.proofs.fers_effect.Tie as tie
+use Rattle.mailbox.proofs.effects.fers_effect.Statement.{statement}
+use Rattle.mailbox.proofs.effects.fers_effect.Tie as tie
 
 enum-known-answer : tie.Need-enum-known-answer
 enum-known-answer c = search needs

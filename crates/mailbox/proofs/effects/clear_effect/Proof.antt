@@ -1,9 +1,9 @@
--- `mailbox::clear_effect` meets its contract: at the timeout that was read. Assumes nothing.
+-- `mailbox::effects::clear_effect` meets its contract: at the timeout that was read. Assumes nothing.
 use mathlib.Core.Path.{refl, _∙_}
 use borrow.Author.Needs.{needs}
 use Rattle.codec.specs.declared.Command.the-variants.{Clkc}
-use Rattle.mailbox.proofs.clear_effect.Statement.{statement}
-use Rattle.mailbox.proofs.clear_effect.Tie as tie
+use Rattle.mailbox.proofs.effects.clear_effect.Statement.{statement}
+use Rattle.mailbox.proofs.effects.clear_effect.Tie as tie
 
 timeout-of-requires : tie.Need-timeout-of-requires
 timeout-of-requires c κs = search needs

@@ -1,7 +1,7 @@
--- `mailbox::refuse` meets its contract: it has no numbers. Assumes nothing.
+-- `mailbox::effects::refuse` meets its contract: it has no numbers. Assumes nothing.
 use borrow.Author.Needs.{needs}
-use Rattle.mailbox.proofs.refuse.Statement.{statement}
-use Rattle.mailbox.proofs.refuse.Tie as tie
+use Rattle.mailbox.proofs.effects.refuse.Statement.{statement}
+use Rattle.mailbox.proofs.effects.refuse.Tie as tie
 
 no-numbers-requires : tie.Need-no-numbers-requires
 no-numbers-requires c κs = search needs

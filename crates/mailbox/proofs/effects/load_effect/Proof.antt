@@ -1,9 +1,9 @@
--- `mailbox::load_effect` meets its contract: at what was read. Assumes nothing.
+-- `mailbox::effects::load_effect` meets its contract: at what was read. Assumes nothing.
 use mathlib.Core.Path.{refl, _∙_}
 use Rattle.codec.specs.declared.Command.the-variants.{Klod}
 use borrow.Author.Needs.{needs}
-use Rattle.mailbox.proofs.load_effect.Statement.{statement}
-use Rattle.mailbox.proofs.load_effect.Tie as tie
+use Rattle.mailbox.proofs.effects.load_effect.Statement.{statement}
+use Rattle.mailbox.proofs.effects.load_effect.Tie as tie
 
 lowest-place-requires : tie.Need-lowest-place-requires
 lowest-place-requires c κs = search needs
