@@ -1,10 +1,12 @@
--- The answers as numbers, for C: each case of a partition's fields, a map's text, a listing, a reason, a place, an answer, a reply, an
--- engine order; and the engine's reply from its number. Assumes nothing.
+-- The answers as numbers, for C: each case of a partition's fields, a map's text, a listing, a reason, a place, a table that is made, an
+-- answer, a reply, an engine order; and the engine's reply from its number. Assumes nothing.
 use Prim.Native.Nat.{ℕ}
 use mathlib.Core.Bool.{cond}
 use lib.Dec.{eqb}
 use Rattle.cache.specs.declared.Place.{Place}
 use Rattle.cache.specs.declared.Place.the-variants.{Empty, Waiting, Held, Unsure}
+use Rattle.handles.specs.declared.Answer.{Answer as Making}
+use Rattle.handles.specs.declared.Answer.the-variants.{Made, Refused as NotMade}
 use Rattle.engine.specs.declared.Order.{Order}
 use Rattle.engine.specs.declared.Order.the-variants.{Nothing, Clear, Load, Unload}
 use Rattle.engine.specs.declared.EngineReply.{EngineReply}
@@ -108,3 +110,8 @@ engineReply number vendor = cond (eqb number 1) EngineDone (cond (eqb number 2) 
 abbrev pub takenNumber : Taking → ℕ
 takenNumber Taken = 0
 takenNumber (NotTaken number) = number
+
+-- request P6, a table: that it was made, or the refusal's number
+abbrev pub madeNumber : Making → ℕ
+madeNumber Made = 0
+madeNumber (NotMade number) = number

@@ -1,9 +1,10 @@
 // What C and Rust call, in a static archive: a map's fields, a map from its text, the states, the
 // reason why no HEK is offered, a place of the key cache, the direct commands, the erasures, the restart,
-// the mailbox and the engine's reply, their answers as the numbers of `numbers`, `reasons` and `replies`.
-// Each function does what the entry point below it does, for any bytes and any lengths, and asks nothing
-// of its caller but what include/sciambrunola.h says of pointers. It rests on `reader`, `plan`, `states`,
-// `reason`, `cache`, `direct`, `erasure`, `mailbox` and `reply`, and on the array of `context`.
+// the table of handles, the mailbox and the engine's reply, their answers as the numbers of `numbers`,
+// `reasons` and `replies`. Each function does what the entry point below it does, for any bytes and any
+// lengths, and asks nothing of its caller but what include/sciambrunola.h says of pointers. It rests on
+// `reader`, `plan`, `states`, `reason`, `cache`, `handles`, `direct`, `erasure`, `mailbox` and `reply`, and
+// on the array of `context`.
 mod numbers;
 mod reasons;
 mod replies;
@@ -21,6 +22,7 @@ use reasons::SciReason;
 ghost use mathlib.Core.Path.{_≡_};
 ghost use Rattle.context.specs.State.{state, outcome, telling};
 ghost use Rattle.cache.specs.Cache.{cacheOf, placeAt, emptied};
+ghost use Rattle.handles.specs.Making.{makingOf};
 ghost use Rattle.reader.specs.Reader.{readingOf};
 ghost use Rattle.plan.specs.Writing.{writingOf};
 ghost use Rattle.states.specs.States.{lists, listingOf};
@@ -30,7 +32,7 @@ ghost use Rattle.direct.specs.Direct.{directOf};
 ghost use Rattle.mailbox.specs.Mailbox.{lent, mailboxOf};
 ghost use Rattle.reply.specs.Reply.{takingOf};
 ghost use Rattle.sciambrunola.specs.Numbers.{fieldsNumbers, writtenNumbers, listingNumbers, reasonNumbers};
-ghost use Rattle.sciambrunola.specs.Numbers.{placeNumbers, answerNumbers, erasureNumbers, replyNumbers, engineReply, takenNumber};
+ghost use Rattle.sciambrunola.specs.Numbers.{placeNumbers, madeNumber, answerNumbers, erasureNumbers, replyNumbers, engineReply, takenNumber};
 
 // The fields of a partition.
 #[no_mangle]
@@ -163,6 +165,16 @@ pub extern "C" fn sci_restart(context: &mut Context)
     ensures { λ _. ⌜ now (context .exit) ≡ emptied (now (context .entry)) ⌝ }
 {
     erasure::restart(context);
+}
+
+// A fresh table of handles, in a context that has none. Answers 0 where it was made, else the refusal's
+// number.
+#[no_mangle]
+pub extern "C" fn sci_make_table(context: &mut Context, handles: &[u32], algorithms: &[u32]) -> u32
+    ensures { λ r. ⌜ outcome r (now (context .exit))
+        ≡ telling madeNumber (makingOf (now (handles .entry)) (now (algorithms .entry)) (now (context .entry))) ⌝ }
+{
+    numbers::flat_made(handles::make_table(context, handles, algorithms))
 }
 
 // A call of the mailbox.

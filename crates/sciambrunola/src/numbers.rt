@@ -1,17 +1,18 @@
 // The answers as numbers, for C, since an enum does not cross: a struct for each kind of answer, and
 // the function that makes it. The numbers of each case are in `specs/Numbers`, but for those of the
 // states, which `states` writes into the lent arrays (`stateNumber`). It rests on the types of
-// `reader`, `plan`, `states`, `cache`, `direct`, `erasure`, `mailbox` and `engine`.
+// `reader`, `plan`, `states`, `cache`, `handles`, `direct`, `erasure`, `mailbox` and `engine`.
 use cache::Place;
 use direct::Answer;
 use engine::Order;
 use erasure::Answer as Erasure;
+use handles::Answer as Making;
 use mailbox::Reply;
 use plan::Answer as Writing;
 use reader::Reading;
 use states::Listing;
 ghost use mathlib.Core.Path.{_≡_};
-ghost use Rattle.sciambrunola.specs.Numbers.{fieldsNumbers, writtenNumbers, listingNumbers, placeNumbers};
+ghost use Rattle.sciambrunola.specs.Numbers.{fieldsNumbers, writtenNumbers, listingNumbers, placeNumbers, madeNumber};
 ghost use Rattle.sciambrunola.specs.Numbers.{answerNumbers, erasureNumbers, orderNumbers, replyNumbers};
 
 // What a map says of a partition, with its header. refusal: 0 where it is told.
@@ -151,6 +152,16 @@ pub fn flat_place(place: Place) -> SciPlace
         Place::Held(tag) => SciPlace { kind: 1, tag: tag },
         Place::Waiting(tag) => SciPlace { kind: 2, tag: tag },
         Place::Unsure(tag) => SciPlace { kind: 3, tag: tag },
+    }
+}
+
+// What came of a table: 0 where it was made, else the refusal's number.
+pub fn flat_made(making: Making) -> u32
+    ensures { λ r. ⌜ r ≡ madeNumber making ⌝ }
+{
+    match making {
+        Making::Made => 0,
+        Making::Refused(number) => number,
     }
 }
 
