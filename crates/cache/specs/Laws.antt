@@ -9,7 +9,7 @@ use native.Mathlib.Omega.{arith}
 use native.Mathlib.Numerals.{add-one}
 use lib.Dec.{eqb}
 use lib.ListN.{length, getD, set, drop, replicate, length-replicate, replicate-append-replicate}
-use lib.Seq.{set-at, set-getD, drop-cons, drop-set-lt, append-snoc}
+use lib.Seq.{set-at, set-getD, getD-set-other, drop-cons, drop-set-lt, append-snoc}
 use borrow.Author.Tests.{lt-ltb, le-ltb, ltb-true, eqb-true, ne-eqb}
 use Rattle.laws.specs.Tests.{decided, lt-or-le, and, not-yes, cond-keeps}
 use Rattle.laws.specs.Below.{firstFrom, first-tells, first-least}
@@ -128,6 +128,16 @@ clearing-behind context = awaiting-behind clearReply (turnedBelow Occupied waiti
 
 pub settled-behind : (kind : ℕ) (context : List ℕ) → drop cacheWords (settled kind context) ≡ drop cacheWords context
 settled-behind kind context = awaiting-behind noReply (turnedBelow Waiting kind places context) ∙ turned-behind Waiting kind places context
+
+-- a store behind the cache leaves it
+pub store-behind : (context : List ℕ) (i v : ℕ) → cacheWords ≤ i → cacheOf (set context i v) ≡ cacheOf context
+unfolding cacheOf
+store-behind context i v l =
+    rw (
+      store-apart kindsAt places context i v (inr (omega arith)),
+      store-apart tagsAt places context i v (inr (omega arith)),
+      getD-set-other context i awaitedAt v 0 (λ e. omega arith),
+    )
 
 -- ---- all places emptied
 

@@ -1,9 +1,9 @@
 -- Request P6: the table of transport handles, as it is read and as a rotation leaves it. Assumes nothing.
-use Prim.Native.Nat.{ℕ, _+_, _-_, _*_, _/_, _%_, _^_}
+use Prim.Native.Nat.{ℕ, _+_, _-_, _*_, _/_, _%_, _^_, _≤_}
 use mathlib.Core.Bool.{Bool, cond, _&&_}
-use mathlib.Core.List.{List}
+use mathlib.Core.List.{List, map}
 use lib.Dec.{eqb, ltb, leb}
-use lib.ListN.{getD, set}
+use lib.ListN.{length, getD, set, take}
 use Rattle.laws.specs.Below.{firstBelow}
 use Rattle.context.specs.Context.{countAt, entriesAt, greatestAt, part}
 
@@ -32,6 +32,10 @@ pub record Table : Type 0 where
   pub entries : List ℕ
   pub greatest : ℕ
 
+-- the words of the table are there, and what lies in front of it
+abbrev pub Long : (context : List ℕ) → Type 0
+Long context = greatestAt + 1 ≤ length context
+
 -- the table of a context
 unfoldable pub tableOf : (context : List ℕ) → Table
 tableOf context = record { count = getD context countAt 0; entries = part entriesAt most context; greatest = getD context greatestAt 0 }
@@ -46,6 +50,10 @@ handleAt t k = handleOf (getD (t .entries) k 0)
 
 abbrev pub algorithmAt : Table → (k : ℕ) → ℕ
 algorithmAt t k = algorithmOf (getD (t .entries) k 0)
+
+-- all handles of the table, in the order of their places
+abbrev pub handlesIn : Table → List ℕ
+handlesIn t = map handleOf (take (t .count) (t .entries))
 
 -- place k is one of the table's, and has the handle
 unfoldable pub holdsAt : Table → (handle k : ℕ) → Bool

@@ -1,4 +1,6 @@
 pub mod Handles
-pub mod Laws
 pub mod Making
+pub mod Laws
+pub mod After
+pub mod Fresh
 pub mod Vectors

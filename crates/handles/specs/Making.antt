@@ -1,5 +1,6 @@
 -- Request P6: "A fresh table has distinct handles, and their largest as the greatest given", and how one is made. Assumes nothing.
 use Prim.Native.Nat.{ℕ, _+_}
+use mathlib.Core.Path.{_≡_}
 use mathlib.Core.Bool.{Bool, true, false, cond, not, _&&_, _||_}
 use mathlib.Core.List.{List, [], _∷_}
 use lib.Dec.{eqb, ltb}
@@ -7,7 +8,7 @@ use lib.ListN.{length, getD, set}
 use Rattle.laws.specs.Refusals.{firstOf}
 use Rattle.context.specs.Context.{countAt, entriesAt, greatestAt}
 use Rattle.context.specs.State.{Outcome, outcome, refusing}
-use Rattle.handles.specs.Handles.{countGood, entryOf, tableOf}
+use Rattle.handles.specs.Handles.{countGood, entryOf, Long, tableOf, hasTable, handlesIn}
 use Rattle.handles.specs.declared.Answer.{Answer}
 use Rattle.handles.specs.declared.Answer.the-variants.{Made, Refused}
 
@@ -28,6 +29,13 @@ greater n m = cond (ltb n m) m n
 abbrev pub largest : (numbers : List ℕ) → ℕ
 largest [] = 0
 largest (n ∷ numbers) = greater n (largest numbers)
+
+-- a fresh table, in a context that has the words of a table, as every lent one has
+pub record Fresh (context : List ℕ) : Type 0 where
+  pub long : Long context
+  pub counted : hasTable (tableOf context) ≡ true
+  pub apart : distinct (handlesIn (tableOf context)) ≡ true
+  pub largest-given : tableOf context .greatest ≡ largest (handlesIn (tableOf context))
 
 -- the entry of place k, 0 where there is none
 abbrev pub entryFrom : (handles algorithms : List ℕ) (k : ℕ) → ℕ
