@@ -1,6 +1,7 @@
 -- The table's laws: a table as the code reads it, a rotation, a fresh table that is made, and what each leaves. Assumes nothing.
 use Prim.Native.Nat.{ℕ, _+_, _-_, _^_, _≤_, _<_}
-use mathlib.Core.Path.{_≡_, refl, sym, ap, _∙_}
+use mathlib.Core.Path.{_≡_, refl, sym, ap, subst, _∙_}
+use mathlib.Core.Logic.{inl, inr}
 use mathlib.Core.Bool.{Bool, true, false, not, _&&_, _||_}
 use mathlib.Core.List.{List, [], _∷_, _++_}
 use native.Mathlib.Omega.{arith}
@@ -8,12 +9,13 @@ use lib.Dec.{eqb, ltb}
 use lib.ListN.{length, getD, set}
 use borrow.Author.Tests.{lt-ltb, le-ltb, ltb-true, leb-true, leb-false, eq-eqb, ne-eqb, not-false}
 use Rattle.laws.specs.Tests.{and}
-use Rattle.laws.specs.Refusals.{firstOf, numberOf, number-refuses, number-passes, Accepted, testAt, refusalAt, Past, refused-at, past-all}
+use Rattle.laws.specs.Refusals.{firstOf, numberOf, number-refuses, number-passes, Accepted, testAt, refusalAt, Past, refused-at, past-all, first-elim, Applies}
 use Rattle.context.specs.Context.{countAt, entriesAt, greatestAt}
 use Rattle.context.specs.Laws.{part-at}
-use Rattle.context.specs.State.{outcome, refusing}
+use Rattle.context.specs.State.{Outcome, outcome, refusing}
 use Rattle.handles.specs.Handles.{most, countGood, entryOf, handleOf, algorithmOf, Table, tableOf, handleAt, algorithmAt, holdsAt, usedUp, rotated, rotatedAt}
 use Rattle.handles.specs.Making.{distinct, greater, largest, made, makingTests, makingOf}
+use Rattle.handles.specs.declared.Answer.{Answer}
 use Rattle.handles.specs.declared.Answer.the-variants.{Made, Refused}
 
 -- ---- the table, at the words that were read
@@ -123,3 +125,20 @@ module _ (handles algorithms context : List ℕ) where
 
   pub making-most : 0 ≡ numberOf (makingTests handles algorithms context) → length handles ≤ most
   making-most z = good-most (length handles) (not-false _ (making-passed z .none 1))
+
+-- what holds of its refusal, and of what it leaves where nothing refuses it, holds of a table that is to be made
+pub making-elim : (handles algorithms context : List ℕ) (P : Outcome Answer (List ℕ) → Type 0) → P (outcome (Refused 2) context)
+    → (((k : ℕ) → testAt (makingTests handles algorithms context) k ≡ false) → P (outcome Made (made handles algorithms context)))
+    → P (makingOf handles algorithms context)
+unfolding makingOf
+making-elim handles algorithms context P refused taken =
+    let tests = makingTests handles algorithms context in
+    first-elim P (refusing Refused context) tests (outcome Made (made handles algorithms context))
+    (λ n a. subst (λ (m : ℕ). P (outcome (Refused m) context)) (sym (two n a)) refused) taken
+  where
+    two : (n : ℕ) → Applies n (makingTests handles algorithms context) → n ≡ 2
+    two n (inl a) = a .1
+    two n (inr (inl a)) = a .1
+    two n (inr (inr (inl a))) = a .1
+    two n (inr (inr (inr (inl a)))) = a .1
+    two n (inr (inr (inr (inr a)))) = absurd a

@@ -7,6 +7,9 @@ use lib.ListN.{take}
 use Rattle.context.specs.State.{State, Outcome, outcome, telling, onContext}
 use Rattle.cache.specs.Cache.{cacheOf, hasPlace}
 use Rattle.cache.specs.declared.Sought.the-variants.{Occupied}
+use Rattle.handles.specs.declared.Answer.{Answer as TableAnswer}
+use Rattle.handles.specs.declared.Answer.the-variants.{Made, Refused as NotMade}
+use Rattle.handles.specs.Making.{makingOf}
 use Rattle.direct.specs.declared.Command.{Command}
 use Rattle.direct.specs.declared.Answer.{Answer}
 use Rattle.direct.specs.declared.Answer.the-variants.{Word, Done, Withheld, Refused as RefusedDirect}
@@ -35,15 +38,17 @@ pub data Call : Type 0 where
   EraseCut : (i k mask : ℕ) → Call
   Mailbox : (code : ℕ) (request response block : List ℕ) → Call
   TakeReply : EngineReply → Call
+  MakeTable : (handles algorithms : List ℕ) → Call
   Restart : Call
 
 -- what it tells: a direct command's answer, an erasure's, the mailbox's reply with the bytes of the response, what came of the engine's
--- reply, or nothing
+-- reply or of a table, or nothing
 pub data Told : Type 0 where
   Answering : Answer → Told
   Erasing : Erasure → Told
   Replying : Reply → (response : List ℕ) → Told
   Taking : ReplyAnswer → Told
+  Making : TableAnswer → Told
   Silent : Told
 
 -- the bytes of a response
@@ -67,6 +72,7 @@ outcomeOf image marks (Erase i) s = telling Erasing (erasureOf image marks i s)
 outcomeOf image marks (EraseCut i k mask) s = telling Erasing (cutErasureOf image marks i k mask s)
 outcomeOf image marks (Mailbox code request response block) s = replying (mailboxOf image marks code request (lent s response block))
 outcomeOf image marks (TakeReply reply) s = telling Taking (onContext s (takingOf reply (s .context)))
+outcomeOf image marks (MakeTable handles algorithms) s = telling Making (onContext s (makingOf handles algorithms (s .context)))
 outcomeOf image marks Restart s = outcome Silent (restarted s)
 
 -- its two halves
@@ -89,6 +95,8 @@ refusal (Replying (Refused number) response) = number
 refusal (Replying (Accepted length order) response) = 0
 refusal (Taking Taken) = 0
 refusal (Taking (NotTaken number)) = number
+refusal (Making Made) = 0
+refusal (Making (NotMade number)) = number
 refusal Silent = 0
 
 -- "each call gets the cells and cache that the one before left, refused or not"

@@ -14,11 +14,12 @@ use Rattle.fuse.specs.Fuse.{free}
 use Rattle.burns.specs.Run.{order}
 use Rattle.drive.specs.Drive.{wholeArrays, markedAt}
 use Rattle.cache.specs.Cache.{cacheOf, AtRest}
+use Rattle.handles.specs.Handles.{tableOf}
 use Rattle.erasure.specs.Parts.{Outside}
 use Rattle.codec.specs.declared.Command.the-variants.{Fers}
 use Rattle.codec.specs.Fields.{codeOf}
 use Rattle.mailbox.specs.Mailbox.{partitionIn}
-use Rattle.history.specs.Calls.{Call, Direct, Erase, EraseCut, Mailbox, TakeReply, Restart, told, refusal, after, afterAll}
+use Rattle.history.specs.Calls.{Call, Direct, Erase, EraseCut, Mailbox, TakeReply, MakeTable, Restart, told, refusal, after, afterAll}
 
 -- ---- attempts and histories
 
@@ -32,6 +33,7 @@ module _ (image marks : List ℕ) where
       let number : ℕ = refusal (told image marks (Mailbox code request response block) s) in
       (code ≡ codeOf Fers) × ((partitionIn request ≡ i) ⊎ ((1 ≤ number) × (number ≤ 6)))
   Attempt i (TakeReply reply) s = ⊥
+  Attempt i (MakeTable handles algorithms) s = ⊥
   Attempt i Restart s = ⊥
 
   -- "A cut erasure that is refused, or whose order ends before burn k, is uncut"; and so is every call that names no cut
@@ -42,6 +44,7 @@ module _ (image marks : List ℕ) where
       (1 ≤ refusal (told image marks (EraseCut j k mask) s)) ⊎ (length (order (software (entryOf image j)) (entryOf image j .n)) ≤ k)
   Uncut (Mailbox code request response block) s = Unit {0}
   Uncut (TakeReply reply) s = Unit {0}
+  Uncut (MakeTable handles algorithms) s = Unit {0}
   Uncut Restart s = Unit {0}
 
   -- "an accepted attempt runs uncut to its end"
@@ -70,6 +73,7 @@ withBuffers (Erase i) response′ block′ = Erase i
 withBuffers (EraseCut i k mask) response′ block′ = EraseCut i k mask
 withBuffers (Mailbox code request response block) response′ block′ = Mailbox code request response′ block′
 withBuffers (TakeReply reply) response′ block′ = TakeReply reply
+withBuffers (MakeTable handles algorithms) response′ block′ = MakeTable handles algorithms
 withBuffers Restart response′ block′ = Restart
 
 -- of the same lengths
@@ -79,21 +83,23 @@ SameLengths (Erase i) response′ block′ = Unit {0}
 SameLengths (EraseCut i k mask) response′ block′ = Unit {0}
 SameLengths (Mailbox code request response block) response′ block′ = (length response′ ≡ length response) × (length block′ ≡ length block)
 SameLengths (TakeReply reply) response′ block′ = Unit {0}
+SameLengths (MakeTable handles algorithms) response′ block′ = Unit {0}
 SameLengths Restart response′ block′ = Unit {0}
 
 -- "the same call, same request and buffer lengths, made alone from the starting cells and an empty cache", and as request P5 says of the
--- start, with no reply awaited
-pub record Alone (call : Call) : Type 0 where
+-- start, with no reply awaited; since request P6 also from the starting table, since 2 depends on it
+pub record Alone (start : State) (call : Call) : Type 0 where
   pub context : List ℕ
   pub at-rest : AtRest (cacheOf context)
+  pub same-table : tableOf context ≡ tableOf (start .context)
   pub response : List ℕ
   pub block : List ℕ
   pub same : SameLengths call response block
 
-abbrev pub callAlone : (call : Call) → Alone call → Call
+abbrev pub callAlone : {start : State} (call : Call) → Alone start call → Call
 callAlone call a = withBuffers call (a .response) (a .block)
 
-abbrev pub startAlone : (start : State) {call : Call} → Alone call → State
+abbrev pub startAlone : (start : State) {call : Call} → Alone start call → State
 startAlone start a = withContext (a .context) start
 
 -- ---- the claim
@@ -117,20 +123,21 @@ pub record Claim (image marks : List ℕ) (i : ℕ) (start : State) (calls : Lis
   -- "No fuse outside it has changed"
   pub outside : (j : ℕ) → Outside image i j → Same start now j
   pub as-many : length (now .cells) ≡ length (start .cells)
-  -- "and no set fuse was cleared"; all places are empty and no reply is awaited, so that every state reached is again a start: no single
-  -- attempt clears one either
+  -- "and no set fuse was cleared"; all places are empty, no reply is awaited and the table is the starting one, so that every state reached
+  -- is again a start: no single attempt clears one either
   pub none-cleared : (j : ℕ) → getD (start .cells) j 0 ⊆ getD (now .cells) j 0
   pub at-rest : AtRest (cacheOf (now .context))
+  pub same-table : tableOf (now .context) ≡ tableOf (start .context)
   -- "Once an accepted attempt runs uncut to its end, the set fuses of the partition are exactly those set at the start and those that are
   -- not stuck"
   pub exactly : Finished image marks i calls start → (j : ℕ) → InPartition image i j → getD (now .cells) j 0 ≡ bitOr (getD (start .cells) j 0) (free (getD marks j 0))
   -- "The answer and the response of every uncut attempt, refused or not, are those of the same attempt made first, from the starting
   -- fuses"
-  pub same-answer : (call : Call) → Attempt image marks i call now → Uncut image marks call now → (alone : Alone call)
+  pub same-answer : (call : Call) → Attempt image marks i call now → Uncut image marks call now → (alone : Alone start call)
       → told image marks (callAlone call alone) (startAlone start alone) ≡ told image marks call now
   -- "where that attempt is accepted or refused with 15, all cells are equal too"
   pub same-cells : (call : Call) → Attempt image marks i call now → Uncut image marks call now
-      → (refusal (told image marks call now) ≡ 0) ⊎ (refusal (told image marks call now) ≡ 15) → (alone : Alone call)
+      → (refusal (told image marks call now) ≡ 0) ⊎ (refusal (told image marks call now) ≡ 15) → (alone : Alone start call)
       → after image marks (callAlone call alone) (startAlone start alone) .cells ≡ after image marks call now .cells
   -- "With a bad map, cells or marks not C long, or no such partition, every attempt is refused and no cell changes"
   pub bad-refused : (mapGood image ≡ false) ⊎ ((wholeArrays image (start .cells) marks ≡ false) ⊎ (headerOf image .partitions ≤ i)) → (call : Call) → Attempt image marks i call now

@@ -26,8 +26,8 @@ use Rattle.mailbox.specs.declared.effects.Effect.{Effect}
 use Rattle.mailbox.specs.Laws.{fers-or-plain}
 use Rattle.mailbox.specs.Told.{mailbox-elim}
 use Rattle.mailbox.specs.Mailbox.{refused, fersOf, partitionIn, accepted, doneOf, replyOf}
-use Rattle.history.specs.Calls.{Call, Direct, Erase, EraseCut, Mailbox, TakeReply, Restart, Erasing, Replying, told, refusal}
-use Rattle.history.specs.Refused.{reply-number, direct-stays, reply-stays}
+use Rattle.history.specs.Calls.{Call, Direct, Erase, EraseCut, Mailbox, TakeReply, MakeTable, Restart, Erasing, Replying, told, refusal}
+use Rattle.history.specs.Refused.{reply-number, direct-stays, reply-stays, table-stays}
 
 -- ---- the claim
 
@@ -39,6 +39,7 @@ BurnsIndicator (Erase j) i = j ≡ i
 BurnsIndicator (EraseCut j k mask) i = (j ≡ i) × (1 ≤ k)
 BurnsIndicator (Mailbox code request response block) i = (code ≡ codeOf Fers) × (partitionIn request ≡ i)
 BurnsIndicator (TakeReply reply) i = ⊥
+BurnsIndicator (MakeTable handles algorithms) i = ⊥
 BurnsIndicator Restart i = ⊥
 
 -- no other number is given
@@ -148,5 +149,9 @@ fifteen image marks s (Mailbox code request response block) = record {
 fifteen image marks s (TakeReply reply) = record {
   exactly = λ i e. absurd e;
   only = λ z. absurd (reply-stays image marks s reply (omega arith) .1 z);
+}
+fifteen image marks s (MakeTable handles algorithms) = record {
+  exactly = λ i e. absurd e;
+  only = λ z. absurd (table-stays image marks s handles algorithms (omega arith) .1 z);
 }
 fifteen image marks s Restart = record { exactly = λ i e. absurd e; only = λ z. absurd (omega arith) }

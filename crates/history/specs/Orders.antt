@@ -20,7 +20,7 @@ use Rattle.engine.specs.declared.EngineReply.the-variants.{Done, TimedOut, Fail
 use Rattle.erasure.specs.Erasure.{isCut}
 use Rattle.mailbox.specs.Mailbox.{loads}
 use Rattle.reply.specs.declared.Answer.the-variants.{Taken, Refused}
-use Rattle.history.specs.Calls.{Call, Direct, Erase, EraseCut, Mailbox, TakeReply, Restart, Told, Answering, Erasing, Replying, Taking, Silent}
+use Rattle.history.specs.Calls.{Call, Direct, Erase, EraseCut, Mailbox, TakeReply, MakeTable, Restart, Told, Answering, Erasing, Replying, Taking, Making, Silent}
 use Rattle.history.specs.Calls.{orderIn, told, after}
 
 -- ---- the orders
@@ -60,6 +60,7 @@ orderTold (Answering answer) = Nothing
 orderTold (Erasing answer) = Nothing
 orderTold (Replying reply response) = orderIn reply
 orderTold (Taking answer) = Nothing
+orderTold (Making answer) = Nothing
 orderTold Silent = Nothing
 
 abbrev pub takenTold : Told → Bool
@@ -68,6 +69,7 @@ takenTold (Erasing answer) = false
 takenTold (Replying reply response) = false
 takenTold (Taking Taken) = true
 takenTold (Taking (Refused number)) = false
+takenTold (Making answer) = false
 takenTold Silent = false
 
 abbrev pub cutTold : Told → Bool
@@ -75,6 +77,7 @@ cutTold (Answering answer) = false
 cutTold (Erasing answer) = isCut answer
 cutTold (Replying reply response) = false
 cutTold (Taking answer) = false
+cutTold (Making answer) = false
 cutTold Silent = false
 
 -- the orders after a call, the last first
@@ -84,6 +87,7 @@ ordersAfter (Erase i) t orders = orders
 ordersAfter (EraseCut i k mask) t orders = cond (cutTold t) (closed Dropped orders) orders
 ordersAfter (Mailbox code request response block) t orders = opened (orderTold t) orders
 ordersAfter (TakeReply reply) t orders = cond (takenTold t) (closed (Answered reply) orders) orders
+ordersAfter (MakeTable handles algorithms) t orders = orders
 ordersAfter Restart t orders = closed Dropped orders
 
 -- and after a list of calls

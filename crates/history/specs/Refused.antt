@@ -40,11 +40,15 @@ use Rattle.mailbox.specs.declared.Reply.the-variants.{Refused, Accepted}
 use Rattle.mailbox.specs.Laws.{is-refused, fers-or-plain}
 use Rattle.mailbox.specs.Told.{mailbox-elim}
 use Rattle.mailbox.specs.Mailbox.{fersOf, partitionIn, accepted, ownTests, doneOf, replyOf, stateAfter, responseAfter, blockAfter, Lent, mailboxOf}
+use Rattle.handles.specs.declared.Answer.{Answer as TableAnswer}
+use Rattle.handles.specs.Making.{makingOf}
+use Rattle.handles.specs.Laws.{making-elim}
 use Rattle.engine.specs.declared.EngineReply.{EngineReply}
 use Rattle.reply.specs.declared.Answer.{Answer as ReplyAnswer}
 use Rattle.reply.specs.Reply.{takingOf}
 use Rattle.reply.specs.Laws.{reply-elim}
-use Rattle.history.specs.Calls.{Call, Direct, Erase, EraseCut, Mailbox, TakeReply, Restart, Answering, Erasing, Replying, Taking, replying, told, refusal, after}
+use Rattle.history.specs.Calls.{Call, Direct, Erase, EraseCut, Mailbox, TakeReply, MakeTable, Restart}
+use Rattle.history.specs.Calls.{Answering, Erasing, Replying, Taking, Making, replying, told, refusal, after}
 
 -- of a call that is refused: the state stays
 abbrev pub Unchanged : (image marks : List ℕ) → Call → State → Type 0
@@ -142,6 +146,14 @@ module _ (image marks : List ℕ) (s : State) where
       (λ (o : Outcome ReplyAnswer (List ℕ)). 1 ≤ refusal (Taking (o .told)) → (withContext (o .after) s ≡ s) × (refusal (Taking (o .told)) ≡ 15 → ⊥))
       (λ _ l. (refl, λ e. omega arith)) (λ _ l. absurd (omega arith))
 
+  -- and so a table that is refused
+  pub table-stays : (handles algorithms : List ℕ) → let o = makingOf handles algorithms (s .context) in
+      1 ≤ refusal (Making (o .told)) → (withContext (o .after) s ≡ s) × (refusal (Making (o .told)) ≡ 15 → ⊥)
+  table-stays handles algorithms =
+      making-elim handles algorithms (s .context)
+      (λ (o : Outcome TableAnswer (List ℕ)). 1 ≤ refusal (Making (o .told)) → (withContext (o .after) s ≡ s) × (refusal (Making (o .told)) ≡ 15 → ⊥))
+      (λ l. (refl, λ e. omega arith)) (λ _ l. absurd (omega arith))
+
   -- so every call
   pub refused-unchanged : (call : Call) → Unchanged image marks call s
   refused-unchanged (Direct command) = λ l. direct-stays command l .0
@@ -149,6 +161,7 @@ module _ (image marks : List ℕ) (s : State) where
   refused-unchanged (EraseCut i k mask) = λ l. let both = erase-stays i k mask l in rw (both .1) (both .0)
   refused-unchanged (Mailbox code request response block) = mailbox-stays code request (length response) (length block)
   refused-unchanged (TakeReply reply) = λ l. reply-stays reply l .0
+  refused-unchanged (MakeTable handles algorithms) = λ l. table-stays handles algorithms l .0
   refused-unchanged Restart = λ l. absurd (omega arith)
 
 -- of the mailbox also response and block, whatever the refusal
