@@ -2,15 +2,18 @@
 
 /// The version of the header and of the archive: it grows by one whenever something
 /// changes for a caller (`docs/CHANGES.md`).
-pub const VERSION: u32 = 9;
+pub const VERSION: u32 = 10;
 /// The bytes of the engine block.
 pub const BLOCK_BYTES: usize = 128;
-/// The bytes of the shortest response buffer that is accepted.
-pub const LEAST_RESPONSE: usize = 20;
+/// The bytes of the shortest response buffer that any command accepts: those of the longest
+/// response, EHDL's.
+pub const LEAST_RESPONSE: usize = 40;
 /// The words of a [`Context`](crate::Context).
-pub const CONTEXT_WORDS: usize = 33;
+pub const CONTEXT_WORDS: usize = 38;
 /// The places of the key cache.
 pub const PLACES: usize = 16;
+/// The most handles that the table has.
+pub const HANDLES: usize = 3;
 /// The most partitions that a map has.
 pub const PARTITIONS: usize = 16;
 /// The bytes of the longest image that [`write_map`](crate::write_map) writes: 8, and 8
@@ -33,6 +36,10 @@ pub mod code {
     pub const FERS: u32 = 0x4645_5253;
     /// Tells the active slot and whether its HEK is available.
     pub const FSTA: u32 = 0x4653_5441;
+    /// Lists the handles of the table.
+    pub const EHDL: u32 = 0x4548_444C;
+    /// Rotates a handle of the table.
+    pub const RHPK: u32 = 0x5248_504B;
 }
 
 /// The kinds of a partition.
@@ -59,8 +66,9 @@ pub mod flag {
 pub mod refusal {
     /// The map breaks a rule.
     pub const MAP: u32 = 1;
-    /// Cells or marks are not as many as the map says, or block or response buffer
-    /// have not the length they need.
+    /// Cells or marks are not as many as the map says, block or response buffer have not
+    /// the length they need, or the context has no table; also what
+    /// [`make_table`](crate::make_table) refuses.
     pub const LENGTHS: u32 = 2;
     /// Unknown code.
     pub const CODE: u32 = 3;
@@ -99,4 +107,8 @@ pub mod refusal {
     pub const UNSURE: u32 = 18;
     /// A reply of the engine, and none is awaited.
     pub const NOT_AWAITED: u32 = 19;
+    /// RHPK, no handle of the table is the one that is asked for.
+    pub const NO_HANDLE: u32 = 20;
+    /// RHPK, the greatest number ever given is the last one there is.
+    pub const NUMBERS_USED_UP: u32 = 21;
 }

@@ -4,10 +4,13 @@ use crate::constants::CONTEXT_WORDS;
 use crate::raw;
 
 /// All that the key block keeps between calls: the key cache with its
-/// [`PLACES`](crate::PLACES) places, and whether the engine's reply is awaited. A new one
-/// has every place empty, and no reply is awaited.
+/// [`PLACES`](crate::PLACES) places, whether the engine's reply is awaited, and the table of
+/// handles. A new one has every place empty, no reply is awaited, and there is no table:
+/// make it by [`make_table`](crate::make_table), without which every mailbox command is
+/// refused (2).
 ///
-/// Keep one for each drive, and lend it to every call on it.
+/// Keep one for each drive, and lend it to every call on it. Keep it over restarts and a
+/// loss of power too, for the table's sake: by its [`words`](Context::words).
 #[repr(C)]
 #[derive(Clone, Debug, PartialEq, Eq)]
 pub struct Context {
@@ -33,7 +36,8 @@ pub enum Place {
 }
 
 impl Context {
-    /// The context before the first call: every place is empty, and no reply is awaited.
+    /// The context before the first call: every place is empty, no reply is awaited, and
+    /// there is no table.
     #[must_use]
     pub const fn new() -> Context {
         Context { words: [0; CONTEXT_WORDS] }
@@ -47,10 +51,16 @@ impl Context {
         }
     }
 
-    /// For this repository's tests, which need contexts that no calls leave.
-    #[doc(hidden)]
-    pub fn from_words(words: [u64; CONTEXT_WORDS]) -> Context {
+    /// The context whose [`words`](Context::words) were saved, by this version.
+    #[must_use]
+    pub const fn from_words(words: [u64; CONTEXT_WORDS]) -> Context {
         Context { words }
+    }
+
+    /// The words, to be saved whole, and neither changed nor interpreted.
+    #[must_use]
+    pub const fn words(&self) -> [u64; CONTEXT_WORDS] {
+        self.words
     }
 }
 

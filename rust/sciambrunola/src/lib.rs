@@ -1,16 +1,17 @@
 //! The proved key block of a drive controller: the map of its fuses, read and
 //! written, the states of its partitions, why it offers no key, direct commands on
-//! its fuses, the erasure of a partition, the key cache of 16 places, the mailbox, and
-//! the engine's reply to its orders.
+//! its fuses, the erasure of a partition, the key cache of 16 places, the table of
+//! transport handles, the mailbox, and the engine's reply to its orders.
 //!
 //! Every function answers for any bytes and any lengths, and a refusal changes
 //! nothing that is lent. The refusal numbers (see [`refusal`]), the fields of the
-//! requests, the text of a map and the lengths are those of documents 01 and 02;
+//! requests, the text of a map and the lengths are those of documents 01, 02 and 003;
 //! `include/sciambrunola.h` has them in short. The work itself is done by the proved
 //! archive; here are only the types that make its calls safe.
 //!
 //! It has no memory of its own: what it keeps between calls is in a [`Context`],
-//! which is the caller's.
+//! which is the caller's. Its table is made once, by [`make_table`], before the first
+//! mailbox command.
 //!
 //! The archive is built for x86-64 Linux (System V calling convention),
 //! position-independent, with no heap, no C library and no undefined symbol, so
@@ -33,7 +34,7 @@ mod states;
 
 pub use answer::{Answer, Erasure, Order, Reply};
 pub use constants::{code, flag, kind, refusal};
-pub use constants::{BLOCK_BYTES, CONTEXT_WORDS, LEAST_RESPONSE, PARTITIONS, PLACES};
+pub use constants::{BLOCK_BYTES, CONTEXT_WORDS, HANDLES, LEAST_RESPONSE, PARTITIONS, PLACES};
 pub use constants::{LONGEST_IMAGE, NO_CELL, NO_SLOT, VERSION};
 pub use context::{Context, Place};
 pub use engine::EngineReply;
@@ -151,7 +152,7 @@ pub fn erase(
 /// The same erasure where the power fails at burn `k`, counted from 0: that burn
 /// has `mask` in place of all ones, of which a 32-bit word takes the low 32
 /// bits, nothing follows, every place of the key cache is emptied, and an awaited reply
-/// of the engine is dropped.
+/// of the engine is dropped; the table of handles stays.
 ///
 /// Where the erasure ends before burn `k`, or is refused, it is [`erase`], and
 /// the context stays as it is.
@@ -170,7 +171,8 @@ pub fn erase_cut(
 }
 
 /// For when the drive has restarted, and the engine with it: empties every place of the
-/// key cache and drops an awaited reply of the engine, and changes nothing else.
+/// key cache and drops an awaited reply of the engine, and changes nothing else: the table
+/// of handles stays.
 ///
 /// No order is given to the engine. To free a slot in operation use KUNL or CLKC.
 pub fn restart(context: &mut Context) {
@@ -178,12 +180,13 @@ pub fn restart(context: &mut Context) {
 }
 
 /// Carries out the mailbox command that `code` names (see [`code`]), with this
-/// request. The block has [`BLOCK_BYTES`], the response [`LEAST_RESPONSE`] or more.
+/// request. The context has a table, by [`make_table`]; the block has [`BLOCK_BYTES`], the
+/// response [`LEAST_RESPONSE`] or more.
 ///
 /// An accepted command writes its response to the start of `response` and,
 /// where it has an order for the engine, the engine block to `block`. Nothing
-/// else changes but the key cache and, by FERS, which is [`erase`], the cells; and
-/// nothing at all on refusal. FERS that is accepted has erased the partition
+/// else changes but the key cache, by RHPK the table, and by FERS, which is [`erase`], the
+/// cells; and nothing at all on refusal. FERS that is accepted has erased the partition
 /// exactly if the response's short pairs are 0 or its first short cell is the indicator's
 /// (see [`Erasure::Ended`]).
 ///
@@ -191,6 +194,11 @@ pub fn restart(context: &mut Context) {
 /// engine's reply to [`engine_reply`]. Until then the place of the key waits, for CLKC
 /// every place that is not empty, and every command but FSTA is refused, with 17 unless
 /// one of 1 to 14 applies.
+///
+/// EHDL tells the handles of the table with their algorithms. RHPK replaces one by the
+/// number after the greatest ever given, and tells that; refused, after 18: 20
+/// ([`refusal::NO_HANDLE`]), 21 ([`refusal::NUMBERS_USED_UP`]). Handles are numbers only:
+/// the drive's own firmware rotates the keypair.
 #[allow(clippy::too_many_arguments)]
 #[inline]
 pub fn mailbox(
@@ -221,7 +229,30 @@ pub fn mailbox(
 #[inline]
 pub fn engine_reply(context: &mut Context, reply: EngineReply) -> Result<(), u32> {
     let (reply, vendor) = reply.to_raw();
-    match raw::engine_reply(context, reply, vendor) {
+    unless_refused(raw::engine_reply(context, reply, vendor))
+}
+
+/// Makes the table of a context that has none, from one to [`HANDLES`] distinct handles with
+/// as many algorithms; the largest handle is the greatest number ever given. Once for each
+/// drive, before its first mailbox command.
+///
+/// From a fresh table, while only these calls change it, no number is given twice: the
+/// handles that it was made of and all that RHPK gave since are distinct. The table is kept
+/// in the context, and the drive has to keep that over a loss of power, saved after an RHPK
+/// that was accepted and before its response goes to the host. From an older copy, or a
+/// context made anew, numbers can be given again.
+///
+/// The error is the refusal's number, 2 ([`refusal::LENGTHS`]): the context has a table, the
+/// handles are none or too many, the algorithms are not as many, or two handles are equal.
+/// Nothing has changed.
+pub fn make_table(context: &mut Context, handles: &[u32], algorithms: &[u32]) -> Result<(), u32> {
+    unless_refused(raw::make_table(context, handles, algorithms))
+}
+
+/// What is answered by a refusal's number, or by 0, alone.
+#[inline]
+fn unless_refused(number: u32) -> Result<(), u32> {
+    match number {
         0 => Ok(()),
         refusal => Err(refusal),
     }

@@ -100,6 +100,14 @@ extern "C" {
     fn sci_restart(context: *mut Context);
 
     fn sci_engine_reply(context: *mut Context, reply: u32, vendor: u32) -> u32;
+
+    fn sci_make_table(
+        context: *mut Context,
+        handles: *const u32,
+        handle_count: usize,
+        algorithms: *const u32,
+        algorithm_count: usize,
+    ) -> u32;
 }
 
 /// Calls a function of the archive with the parts of a drive, each pointer
@@ -205,6 +213,13 @@ pub(crate) fn restart(context: &mut Context) {
 pub(crate) fn engine_reply(context: &mut Context, reply: u32, vendor: u32) -> u32 {
     // SAFETY: the pointer is that of a mutable borrow.
     unsafe { sci_engine_reply(context, reply, vendor) }
+}
+
+pub(crate) fn make_table(context: &mut Context, handles: &[u32], algorithms: &[u32]) -> u32 {
+    let (first, second) = (handles.as_ptr(), algorithms.as_ptr());
+    // SAFETY: every pointer and count is that of a borrowed slice, which is only read. The
+    // context is borrowed mutably, so it overlaps nothing.
+    unsafe { sci_make_table(context, first, handles.len(), second, algorithms.len()) }
 }
 
 #[inline]
