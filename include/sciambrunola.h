@@ -1,15 +1,15 @@
 /*
  * The proved key block of a drive controller: the map of its fuses, read and
  * written, the states of its partitions, why it offers no key, direct commands on
- * its fuses, the erasure of a partition, the key cache of 16 places, the mailbox,
- * and the engine's reply to its orders. Link libsciambrunola.a: it is built for
- * x86-64 Linux (System V calling convention), position-independent, with no heap, no
- * C library and no undefined symbol. Call it from ordinary threads and not from an
- * interrupt handler: it uses the red zone below the stack pointer and the SSE
- * registers. It has no unwind tables, so no exception and no cancellation may pass
- * through a call of it, and a backtrace ends there.
+ * its fuses, the erasure of a partition, the key cache of 16 places, the table of
+ * transport handles, the mailbox, and the engine's reply to its orders. Link
+ * libsciambrunola.a: it is built for x86-64 Linux (System V calling convention),
+ * position-independent, with no heap, no C library and no undefined symbol. Call it
+ * from ordinary threads and not from an interrupt handler: it uses the red zone below
+ * the stack pointer and the SSE registers. It has no unwind tables, so no exception and
+ * no cancellation may pass through a call of it, and a backtrace ends there.
  *
- * Any bytes, texts, cells, marks, contexts, requests and lengths get an answer,
+ * Any bytes, texts, cells, marks, contexts, handles, requests and lengths get an answer,
  * and every call ends. What the caller must see to, and all of it:
  *   - every pointer is valid for its count (and not null, even for a count of
  *     0) and aligned for its type; a count is in elements of that type;
@@ -25,7 +25,8 @@
  *
  * What is lent to every function, save that sci_partition gets the image only,
  * sci_write_map a text and a buffer for the image, sci_engine_reply, sci_restart and
- * sci_cache_place the context only, and sci_states and sci_why no context:
+ * sci_cache_place the context only, sci_make_table the context and the handles with
+ * their algorithms, and sci_states and sci_why no context:
  *   image, image_bytes  the map of the fuses, as below; only read, but for
  *                       sci_write_map, which writes it
  *   cells, cell_count   the fuse cells, 32 fuses each; written by sci_write,
@@ -38,18 +39,22 @@
  *                       so. Only read
  *   context             what the key block keeps from call to call: the key
  *                       cache, SCI_PLACES places, each empty or with a 64-bit
- *                       tag, and whether the engine's reply is awaited, as below.
- *                       Have one sci_context for each drive, all zeros before its
- *                       first call (sci_context context = {0};), which is an
- *                       empty cache and no reply awaited, and keep it between
- *                       calls. Do not change or interpret its words: later
- *                       releases may add to them and lay them out otherwise, so
- *                       compile with the header of the archive that you link.
- *                       sci_cache_place tells what a place has. Changed by
- *                       sci_mailbox, sci_engine_reply, sci_erase_cut and
- *                       sci_restart alone. sci_read, sci_write, sci_zeroize and
- *                       sci_erase leave it as it was, though the pointer is not
- *                       const there either
+ *                       tag, whether the engine's reply is awaited, and the table
+ *                       of handles, as below. Have one sci_context for each
+ *                       drive, all zeros before its first call (sci_context
+ *                       context = {0};), which is an empty cache, no reply
+ *                       awaited and no table. Then make its table, by
+ *                       sci_make_table: before that every mailbox command is
+ *                       refused. Keep the context between calls, and over
+ *                       restarts and cuts too, for the table's sake. Do not change
+ *                       or interpret its words: later releases may add to them
+ *                       and lay them out otherwise, so compile with the header of
+ *                       the archive that you link. sci_cache_place tells what a
+ *                       place has, EHDL what the table has. Changed by
+ *                       sci_mailbox, sci_engine_reply, sci_make_table,
+ *                       sci_erase_cut and sci_restart alone. sci_read, sci_write,
+ *                       sci_zeroize and sci_erase leave it as it was, though the
+ *                       pointer is not const there either
  *
  * The map, each u16 little-endian:
  *   header      four u16: partitions P (1 to 16), cells C (4 to 2,048), bound B
@@ -94,7 +99,8 @@
  *      timer runs out first, the reply is timed out; an engine that never answers is
  *      told by that timer alone, the key block has none.
  *   3. Hand the reply in by sci_engine_reply.
- * In C, where run_engine is the drive's own and answers a SCI_ENGINE_ number:
+ * In C, on a context with a table, where run_engine is the drive's own and answers a
+ * SCI_ENGINE_ number:
  *   reply = sci_mailbox(..., &context, code, request, ..., block, sizeof block);
  *   if (reply.refusal == 0 && reply.order != SCI_ORDER_NONE) {
  *       uint32_t vendor = 0, said = run_engine(&reply, block, &vendor);
@@ -117,17 +123,42 @@
  * place would be told as held whose key the engine has not, or, worse, as empty whose
  * key it still has, and the slot could then be erased under it.
  *
+ * The table of handles. The host lists the drive's transport handles by EHDL, and
+ * rotates one by RHPK. They are numbers only: the key block keeps no HPKE keypair, and a
+ * rotation gives a number; the drive's own firmware rotates the keypair, and knows which
+ * one a number is for. The table has one to SCI_HANDLES handles, an algorithm for each,
+ * and the greatest number ever given. RHPK puts one above the greatest in the handle's
+ * place, and that is then the greatest; the algorithm stays. A restart and a cut leave
+ * the table, whatever becomes of the keypairs.
+ * The drive maker makes it once for each drive, before the first mailbox command: until
+ * then every mailbox command is refused, with 2 unless 1 applies. In C:
+ *   sci_context context = {0};
+ *   static const uint32_t handles[] = {1, 2}, algorithms[] = {0x1, 0x2};
+ *   refusal = sci_make_table(&context, handles, 2, algorithms, 2);
+ * RHPK then gives the numbers above the largest of these handles, one after the other, up
+ * to 2^32 - 1.
+ * From a fresh table, while only our calls change it, no number is given twice: the
+ * handles that it was made of and all that RHPK gave since are distinct, and every handle
+ * of the table is one of them. The limits of that: the table is kept in the context, and
+ * the drive has to keep the context, over a loss of power too. Save it, whole, after an
+ * RHPK that was accepted and before its response goes to the host. Numbers can be given
+ * again from a context that is an older copy, that was saved without its table, that was
+ * made anew from zeros, or whose words another version laid out. Where one has to be made
+ * anew, make its table of handles above every number that was ever given.
+ *
  * Refusal numbers, each with the rest of its name behind SCI_REFUSAL_. A call checks
  * those that its own text names, in ascending order, and answers the first that
  * applies. Two calls have another order: sci_write_map checks 16, then 1; sci_mailbox
- * checks 1 to 14 ascending, then 17, then 18, and 15 last, since FERS's run gives it,
- * before which no fuse has burned. A refused call leaves everything that is lent as it
- * was.
+ * checks 1 to 14 ascending, then 17, 18, 20 and 21, and 15 last, since FERS's run gives
+ * it, before which no fuse has burned. A refused call leaves everything that is lent as
+ * it was.
  *       SCI_REFUSAL_
  *    1  MAP              the map breaks a rule above
  *    2  LENGTHS          cells or marks are not as many as the map says; for the
- *                        mailbox also the block is not SCI_BLOCK_BYTES long, or
- *                        the response buffer is under SCI_LEAST_RESPONSE bytes
+ *                        mailbox also the block is not SCI_BLOCK_BYTES long, the
+ *                        response buffer is under SCI_LEAST_RESPONSE bytes, or the
+ *                        context has no table, or one whose count is not 1 to
+ *                        SCI_HANDLES; for sci_make_table what its text says
  *    3  CODE             unknown code
  *    4  REQUEST_LENGTH   the request has not its exact length
  *    5  CHKSUM           wrong chksum
@@ -152,6 +183,9 @@
  *                        is awaited or a place waits: hand in the reply first
  *   18  UNSURE           KLOD or KUNL while a place is unsure: CLKC first
  *   19  NOT_AWAITED      a reply of the engine, and none is awaited
+ *   20  NO_HANDLE        RHPK, no handle of the table is the one that is asked for
+ *   21  NUMBERS_USED_UP  RHPK, the greatest number ever given is 2^32 - 1, or in a
+ *                        context that no calls left more: there is no next one
  */
 #ifndef SCIAMBRUNOLA_H
 #define SCIAMBRUNOLA_H
@@ -165,7 +199,7 @@ extern "C" {
 
 /* The version of this header and of the archive that goes with it: it grows by one
  * whenever something changes for a caller. docs/CHANGES.md says what. */
-#define SCI_VERSION 9
+#define SCI_VERSION 10
 
 /* Of a function whose answer has to be looked at: a warning where it is not, if the
  * compiler has one. An erasure that ended is not yet an erased partition. */
@@ -177,12 +211,14 @@ extern "C" {
 
 /* Places of the key cache. */
 #define SCI_PLACES 16
+/* The most handles that the table has. */
+#define SCI_HANDLES 3
 /* Words of a sci_context. */
-#define SCI_CONTEXT_WORDS 33
+#define SCI_CONTEXT_WORDS 38
 /* Bytes of the engine block: MEK at 00h, METD at 40h, AUX at 60h. */
 #define SCI_BLOCK_BYTES 128
-/* The shortest response buffer that is accepted. */
-#define SCI_LEAST_RESPONSE 20
+/* The shortest response buffer that any command accepts: the longest response, EHDL's. */
+#define SCI_LEAST_RESPONSE 40
 /* The most partitions that a map has. */
 #define SCI_PARTITIONS 16
 /* The bytes of the longest image that is written: 8, and 8 for each of SCI_PARTITIONS. */
@@ -218,6 +254,8 @@ extern "C" {
 #define SCI_REFUSAL_AWAITING 17
 #define SCI_REFUSAL_UNSURE 18
 #define SCI_REFUSAL_NOT_AWAITED 19
+#define SCI_REFUSAL_NO_HANDLE 20
+#define SCI_REFUSAL_NUMBERS_USED_UP 21
 
 /* states[i] of sci_states */
 #define SCI_STATE_ERASED 0
@@ -275,9 +313,11 @@ extern "C" {
 #define SCI_KUNL UINT32_C(0x4B554E4C)
 #define SCI_FERS UINT32_C(0x46455253)
 #define SCI_FSTA UINT32_C(0x46535441)
+#define SCI_EHDL UINT32_C(0x4548444C)
+#define SCI_RHPK UINT32_C(0x5248504B)
 
-/* What the key block keeps between calls, all zeros at first. The caller keeps it for
- * the key block, and neither changes nor interprets its words. */
+/* What the key block keeps between calls, all zeros at first; then its table is made. The
+ * caller keeps it for the key block, and neither changes nor interprets its words. */
 typedef struct {
     uint64_t words[SCI_CONTEXT_WORDS];
 } sci_context;
@@ -507,7 +547,7 @@ sci_erasure sci_erase(const uint8_t *image, size_t image_bytes,
  * the burns before it are whole, burn k has the mask in place of all ones (its
  * low half for the first cell of a pair; its low 32 bits for a 32-bit word), and
  * nothing follows. Then every place of the cache is empty, and a reply that was
- * awaited is so no longer. Answers SCI_CUT and k + 1 burns.
+ * awaited is so no longer; the table stays. Answers SCI_CUT and k + 1 burns.
  * If the erasure would end before burn k, at the end of its order or with 15,
  * it is sci_erase: the answer and the cells are the same, and the context stays
  * as it was.
@@ -523,7 +563,7 @@ sci_erasure sci_erase_cut(const uint8_t *image, size_t image_bytes,
 /*
  * Call it when the drive has restarted, and the engine with it. Empties every
  * place of the cache, drops an awaited reply of the engine, and changes nothing
- * else. It cannot be refused.
+ * else: the table stays. It cannot be refused.
  * No order is given to the engine, which would keep its keys if it had not
  * restarted: to free a slot in operation use KUNL or CLKC, and have it answered done.
  */
@@ -546,6 +586,21 @@ SCI_ANSWER
 uint32_t sci_engine_reply(sci_context *context, uint32_t reply, uint32_t vendor);
 
 /*
+ * Makes the table of a context that has none: handles[i] and algorithms[i] at place i,
+ * and the largest handle as the greatest number ever given. Any number can be a handle or
+ * an algorithm, and algorithms may be equal. Nothing else of the context changes. It is
+ * made once for each drive, before its first mailbox command, and kept, as said above.
+ * Answers 0 where the table was made, else the refusal's number.
+ * Refused: 2 if the context has a table, also one whose count is not 1 to SCI_HANDLES; if
+ * there are not one to SCI_HANDLES handles, or not as many algorithms; or if two handles
+ * are equal.
+ */
+SCI_ANSWER
+uint32_t sci_make_table(sci_context *context,
+                        const uint32_t *handles, size_t handle_count,
+                        const uint32_t *algorithms, size_t algorithm_count);
+
+/*
  * A mailbox command. Fields are little-endian u32, but for the 64 MEK bytes.
  *
  *   code      request                                      response
@@ -564,6 +619,12 @@ uint32_t sci_engine_reply(sci_context *context, uint32_t reply, uint32_t vendor)
  *                                                          SCI_NO_SLOT, HEK
  *                                                          available 1 or 0
  *                                                          20 bytes
+ *   SCI_EHDL  chksum, reserved                             ..., hpke_handle_count;
+ *             8 bytes                                      for each of them: handle,
+ *                                                          hpke_algorithm
+ *                                                          24, 32 or 40 bytes
+ *   SCI_RHPK  chksum, reserved, hpke_handle                ..., hpke_handle
+ *             12 bytes                                     16 bytes
  *
  * A request's chksum is 0 minus the sum of the four bytes of the code and of
  * every request byte after chksum, in 32 bits; a response's is the same
@@ -582,6 +643,12 @@ uint32_t sci_engine_reply(sci_context *context, uint32_t reply, uint32_t vendor)
  * otherwise it is torn, and its seed may still be there. The block and the context
  * are unchanged, and there is no order for the engine.
  * FSTA changes nothing but the response; there is no order for the engine.
+ * EHDL tells the handles of the table, in its order, with their algorithms. It changes
+ * nothing but the response; there is no order for the engine.
+ * RHPK replaces the handle that it names by the number after the greatest ever given, and
+ * tells that. If the table has the handle more than once, which no table has that our
+ * calls made, the lowest place is meant. The algorithm and the block are unchanged, and
+ * there is no order for the engine.
  *
  * The response buffer has SCI_LEAST_RESPONSE bytes or more, the block has
  * SCI_BLOCK_BYTES: the engine's registers from 00h on, without CTRL at 80h. Where
@@ -590,7 +657,7 @@ uint32_t sci_engine_reply(sci_context *context, uint32_t reply, uint32_t vendor)
  * No command but FERS changes a cell. Response bytes past the response keep
  * their values.
  * Refused, in this order: 1 to 6; 7, 8, 10 (FERS); 11, 12, 13 (KLOD); 14 (KUNL); 17
- * (all but FSTA); 18 (KLOD, KUNL); 15 (FERS).
+ * (all but FSTA); 18 (KLOD, KUNL); 20, 21 (RHPK); 15 (FERS).
  */
 SCI_ANSWER
 sci_reply sci_mailbox(const uint8_t *image, size_t image_bytes,
