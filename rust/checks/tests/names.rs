@@ -11,9 +11,9 @@ use std::process::Command;
 
 /// Every name of the header after `SCI_`, in its order, with its number in hexadecimal.
 const HEADER: &str = "\
-VERSION 9
-PLACES 10, CONTEXT_WORDS 21, BLOCK_BYTES 80, LEAST_RESPONSE 14, PARTITIONS 10
-LONGEST_IMAGE 88
+VERSION A
+PLACES 10, HANDLES 3, CONTEXT_WORDS 26, BLOCK_BYTES 80, LEAST_RESPONSE 28
+PARTITIONS 10, LONGEST_IMAGE 88
 KIND_HARDWARE 0, KIND_SOFTWARE 1, KIND_LIFE_CYCLE 2
 FLAG_ZEROIZABLE 1, FLAG_SECRET 2, FLAG_SLOT 4
 REFUSAL_MAP 1, REFUSAL_LENGTHS 2, REFUSAL_CODE 3, REFUSAL_REQUEST_LENGTH 4
@@ -21,6 +21,7 @@ REFUSAL_CHKSUM 5, REFUSAL_RESERVED 6, REFUSAL_NOT_FOUND 7, REFUSAL_FORBIDDEN 8
 REFUSAL_CLEARS_FUSE 9, REFUSAL_KEYS_HELD A, REFUSAL_NO_HEK B, REFUSAL_TAG_HELD C
 REFUSAL_NO_PLACE D, REFUSAL_TAG_NOT_HELD E, REFUSAL_INDICATOR_UNSET F
 REFUSAL_TEXT 10, REFUSAL_AWAITING 11, REFUSAL_UNSURE 12, REFUSAL_NOT_AWAITED 13
+REFUSAL_NO_HANDLE 14, REFUSAL_NUMBERS_USED_UP 15
 STATE_ERASED 0, STATE_TORN 1, STATE_BLANK 2, STATE_PROGRAMMED 3
 REASON_AVAILABLE 0, REASON_NO_SLOT 1, REASON_ALL_ERASED 2
 REASON_BLANK 3, REASON_TORN 4, REASON_REFUSED 5
@@ -31,6 +32,7 @@ NO_CELL FFFFFFFF, NO_SLOT FFFFFFFF
 ORDER_NONE 0, ORDER_CLEAR 1, ORDER_LOAD 2, ORDER_UNLOAD 3
 ENGINE_DONE 1, ENGINE_TIMED_OUT 2, ENGINE_FAILED 3
 CLKC 434C4B43, KLOD 4B4C4F44, KUNL 4B554E4C, FERS 46455253, FSTA 46535441
+EHDL 4548444C, RHPK 5248504B
 ";
 
 /// Every name that the header gives a number is printed by a C program.
@@ -63,15 +65,17 @@ fn names_of_the_safe_calls_have_the_documents_numbers() {
     let last = [refusal::NO_PLACE, refusal::TAG_NOT_HELD, refusal::INDICATOR_UNSET, refusal::TEXT];
     assert_eq!(last, [13, 14, 15, 16]);
     assert_eq!([refusal::AWAITING, refusal::UNSURE, refusal::NOT_AWAITED], [17, 18, 19]);
+    assert_eq!([refusal::NO_HANDLE, refusal::NUMBERS_USED_UP], [20, 21]);
     let codes = [code::CLKC, code::KLOD, code::KUNL, code::FERS, code::FSTA];
     assert_eq!(codes, [0x434C_4B43, 0x4B4C_4F44, 0x4B55_4E4C, 0x4645_5253, 0x4653_5441]);
+    assert_eq!([code::EHDL, code::RHPK], [0x4548_444C, 0x5248_504B]);
     assert_eq!([kind::HARDWARE, kind::SOFTWARE, kind::LIFE_CYCLE], [0, 1, 2]);
     assert_eq!([flag::ZEROIZABLE, flag::SECRET, flag::SLOT], [1, 2, 4]);
-    assert_eq!([sciambrunola::BLOCK_BYTES, sciambrunola::LEAST_RESPONSE], [128, 20]);
+    assert_eq!([sciambrunola::BLOCK_BYTES, sciambrunola::LEAST_RESPONSE], [128, 40]);
     assert_eq!([sciambrunola::PLACES, sciambrunola::PARTITIONS], [16, 16]);
-    assert_eq!(sciambrunola::LONGEST_IMAGE, 136);
+    assert_eq!([sciambrunola::HANDLES, sciambrunola::LONGEST_IMAGE], [3, 136]);
     let bytes = std::mem::size_of::<sciambrunola::Context>();
-    assert_eq!([sciambrunola::CONTEXT_WORDS, bytes], [33, 264]);
+    assert_eq!([sciambrunola::CONTEXT_WORDS, bytes], [38, 304]);
     assert_eq!([sciambrunola::NO_CELL, sciambrunola::NO_SLOT], [0xFFFF_FFFF; 2]);
     assert!(HEADER.starts_with(&format!("VERSION {:X}\n", sciambrunola::VERSION)));
     let changes = fs::read_to_string(in_repository("docs/CHANGES.md")).expect("it can be read");
