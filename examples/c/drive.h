@@ -23,6 +23,8 @@ bool failed(const char *step, uint32_t refusal);
 /* mailbox.c. A command has to be refused with the number that is named, or with none
  * if it is 0. */
 bool ask_for_status(bool must_be_available);
+bool list_handles(void);
+bool rotate_handle(uint32_t handle);
 bool load_key(uint64_t tag, const uint8_t mek[MEK_BYTES], uint32_t refusal);
 bool clear_keys(uint32_t refusal);
 bool engine_replies(uint32_t reply);

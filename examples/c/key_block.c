@@ -1,11 +1,11 @@
 /*
  * The key block from C, on the small drive of document 01: its map and its states are
- * read; a key is loaded, and an erasure refused while it is held; the engine does not
- * answer to the load of another key, and a clear recovers; an erasure is cut by a power
- * failure, the drive restarts, the next erasure ends it, and the drive is asked why it
- * offers no key. Each step prints a line or two; one that fails ends the program with a
- * failing status. main, at the end, tells the story; the mailbox and the engine are in
- * mailbox.c.
+ * read; its table of handles is made, and a handle rotated; a key is loaded, and an
+ * erasure refused while it is held; the engine does not answer to the load of another
+ * key, and a clear recovers; an erasure is cut by a power failure, the drive restarts,
+ * the next erasure ends it, and the drive is asked why it offers no key. Each step prints
+ * a line or two; one that fails ends the program with a failing status. main, at the end,
+ * tells the story; the mailbox and the engine are in mailbox.c.
  *
  * From the root of the repository, once the archive is built:
  *   cc -std=c99 -I include examples/c/key_block.c examples/c/mailbox.c \
@@ -37,8 +37,9 @@ const uint8_t map[MAP_BYTES] = {
 };
 
 /* The library has no memory of its own. The fuses, one of them set, their stuck marks,
- * and the context, in which it keeps the key cache, here empty, and whether the engine's
- * reply is awaited, are ours, and lent to it for each call. */
+ * and the context, in which it keeps the key cache, here empty, whether the engine's reply
+ * is awaited, and the table of handles, which is still to be made, are ours, and lent to
+ * it for each call. */
 uint32_t cells[CELLS] = {1};
 uint32_t marks[CELLS];
 sci_context context = {0};
@@ -126,6 +127,20 @@ static bool tell_why(void)
     }
 }
 
+/* Once for each drive, before its first mailbox command. Here a drive saves the context,
+ * which has the table, and loads it again whenever the power is back. */
+static bool make_table(void)
+{
+    static const uint32_t handles[] = {1, 2};
+    static const uint32_t algorithms[] = {0x1, 0x2}; /* of document 003, a bit for each */
+    uint32_t refusal = sci_make_table(&context, handles, 2, algorithms, 2);
+    if (refusal != 0) {
+        return failed("table", refusal);
+    }
+    printf("table: made\n");
+    return true;
+}
+
 static sci_erasure erase(void)
 {
     sci_erasure erasure = sci_erase(map, sizeof map, cells, CELLS, marks, CELLS, &context, SLOT);
@@ -161,14 +176,14 @@ static bool erase_slot_cut(void)
     return true;
 }
 
-/* The drive is back, and the engine with it: no key is held, and no reply is awaited. A
- * drive that goes on unloads its keys by KUNL or CLKC, which have an order for the
- * engine. */
+/* The drive is back, and the engine with it: no key is held, and no reply is awaited; the
+ * table of handles is what it was. A drive that goes on unloads its keys by KUNL or CLKC,
+ * which have an order for the engine. */
 static bool restart(void)
 {
     sci_restart(&context);
     printf("restart\n");
-    return list_places() == 0 || failed("restart", 0);
+    return (list_places() == 0 || failed("restart", 0)) && list_handles();
 }
 
 /* An erasure of the slot that ended has erased it exactly if no pair is short or the
@@ -221,7 +236,10 @@ int main(int argc, char **argv)
     uint8_t mek[MEK_BYTES];
     bool done;
     memset(mek, 0x4B, sizeof mek); /* stands for a key */
-    done = take_marks(argc, argv) && read_map() && list_states() && ask_for_status(true)
+    done = take_marks(argc, argv) && read_map() && list_states()
+           /* a table of handles is made; one handle is rotated */
+           && make_table() && list_handles() && rotate_handle(1) && list_handles()
+           && ask_for_status(true)
            /* a key is loaded, and held once the engine is done */
            && load_key(1, mek, 0) && engine_replies(SCI_ENGINE_DONE) && erase_with_key_held()
            /* the engine is silent until the timer runs out; meanwhile FSTA alone is answered */

@@ -48,6 +48,12 @@ static sci_reply ask(uint32_t code, uint8_t *request, size_t request_bytes)
                        request, request_bytes, response, sizeof response, block, sizeof block);
 }
 
+/* A command without an order for the engine has to be carried out. */
+static bool carried_out(const char *command, sci_reply reply)
+{
+    return (reply.refusal == 0 && reply.order == SCI_ORDER_NONE) || failed(command, reply.refusal);
+}
+
 /* What a place is called, an empty one apart. A kind that is not known is no better than
  * unsure. */
 static const char *kind_name(uint32_t kind)
@@ -159,9 +165,8 @@ bool clear_keys(uint32_t refusal)
 bool ask_for_status(bool must_be_available)
 {
     uint8_t request[8] = {0}; /* chksum, reserved */
-    sci_reply reply = ask(SCI_FSTA, request, sizeof request);
-    if (reply.refusal != 0 || reply.order != SCI_ORDER_NONE) {
-        return failed("FSTA", reply.refusal);
+    if (!carried_out("FSTA", ask(SCI_FSTA, request, sizeof request))) {
+        return false;
     }
     printf("FSTA: active slot 0x%08" PRIX32 ", HEK available %" PRIu32 "\n",
            field(response + 12), field(response + 16));
@@ -169,5 +174,36 @@ bool ask_for_status(bool must_be_available)
         fprintf(stderr, "FSTA: the HEK should%s be available\n", must_be_available ? "" : " not");
         return false;
     }
+    return true;
+}
+
+/* Prints the handles of the table, each with its algorithm. */
+bool list_handles(void)
+{
+    uint8_t request[8] = {0}; /* chksum, reserved */
+    uint32_t i;
+    if (!carried_out("EHDL", ask(SCI_EHDL, request, sizeof request))) {
+        return false;
+    }
+    printf("EHDL:");
+    for (i = 0; i < field(response + 12); i++) {
+        printf("%s handle %" PRIu32 " algorithm %" PRIu32, i == 0 ? "" : ",",
+               field(response + 16 + 8 * i), field(response + 20 + 8 * i));
+    }
+    printf("\n");
+    return true;
+}
+
+/* Gives a handle its next number, which is all that the key block does. Here a drive rotates
+ * the keypair, and saves the context before the response goes to the host, so that the
+ * number is not given again after a loss of power. */
+bool rotate_handle(uint32_t handle)
+{
+    uint8_t request[12] = {0}; /* chksum, reserved, hpke_handle */
+    put_field(request + 8, handle);
+    if (!carried_out("RHPK", ask(SCI_RHPK, request, sizeof request))) {
+        return false;
+    }
+    printf("RHPK: handle %" PRIu32 " becomes %" PRIu32 "\n", handle, field(response + 12));
     return true;
 }

@@ -1,10 +1,10 @@
 //! The key block from Rust, on the small drive of document 01: its map and its states
-//! are read; a key is loaded, and an erasure refused while it is held; the engine does
-//! not answer to the load of another key, and a clear recovers; an erasure is cut by a
-//! power failure, the drive restarts, the next erasure ends it, and the drive is asked
-//! why it offers no key. Each step prints a line or two; one that fails ends the program
-//! with a failing status. `story`, at the end, tells it; the mailbox and the engine are
-//! in `mailbox.rs`.
+//! are read; its table of handles is made, and a handle rotated; a key is loaded, and an
+//! erasure refused while it is held; the engine does not answer to the load of another
+//! key, and a clear recovers; an erasure is cut by a power failure, the drive restarts,
+//! the next erasure ends it, and the drive is asked why it offers no key. Each step prints
+//! a line or two; one that fails ends the program with a failing status. `story`, at the
+//! end, tells it; the mailbox and the engine are in `mailbox.rs`.
 //!
 //! From the root of the repository, once the archive is built:
 //!   cargo run --offline --release --manifest-path rust/Cargo.toml --bin key_block
@@ -15,7 +15,7 @@
 
 mod mailbox;
 
-use sciambrunola::{erase, erase_cut, partition, restart, states, why};
+use sciambrunola::{erase, erase_cut, make_table, partition, restart, states, why};
 use sciambrunola::{flag, kind, refusal, BLOCK_BYTES, LEAST_RESPONSE};
 use sciambrunola::{Context, EngineReply, Erasure, Fields, Reason, States};
 use std::fmt::Debug;
@@ -44,8 +44,8 @@ struct Drive {
     cells: [u32; 12],
     /// Their stuck marks.
     marks: [u32; 12],
-    /// What the library keeps between calls: the key cache, here empty, and whether the
-    /// engine's reply is awaited.
+    /// What the library keeps between calls: the key cache, here empty, whether the
+    /// engine's reply is awaited, and the table of handles, which is still to be made.
     context: Context,
     /// The buffers of the mailbox.
     response: [u8; LEAST_RESPONSE],
@@ -112,6 +112,17 @@ impl Drive {
         Ok(())
     }
 
+    /// Once for each drive, before its first mailbox command. Here a drive saves the words
+    /// of the context, which has the table, and takes them again whenever the power is back.
+    fn make_table(&mut self) -> Step {
+        // The algorithms are of document 003, a bit for each.
+        if let Err(number) = make_table(&mut self.context, &[1, 2], &[0x1, 0x2]) {
+            return failed("table", number);
+        }
+        println!("table: made");
+        Ok(())
+    }
+
     fn erase(&mut self) -> Erasure {
         let erasure = erase(&MAP, &mut self.cells, &self.marks, &mut self.context, SLOT);
         match erasure {
@@ -163,14 +174,14 @@ impl Drive {
         }
     }
 
-    /// The drive is back, and the engine with it: no key is held, and no reply is awaited.
-    /// A drive that goes on unloads its keys by KUNL or CLKC, which have an order for the
-    /// engine.
+    /// The drive is back, and the engine with it: no key is held, and no reply is awaited;
+    /// the table of handles is what it was. A drive that goes on unloads its keys by KUNL
+    /// or CLKC, which have an order for the engine.
     fn restart(&mut self) -> Step {
         restart(&mut self.context);
         println!("restart");
         match self.list_places() {
-            0 => Ok(()),
+            0 => self.list_handles(),
             places => failed("restart, places that are not empty", places),
         }
     }
@@ -221,6 +232,11 @@ fn story() -> Step {
     let mut drive = Drive { cells, marks: stuck, context: Context::new(), response, block };
     read_map()?;
     drive.list_states()?;
+    // A table of handles is made; one handle is rotated.
+    drive.make_table()?;
+    drive.list_handles()?;
+    drive.rotate_handle(1)?;
+    drive.list_handles()?;
     drive.ask_for_status(true)?;
     // A key is loaded, and held once the engine is done.
     let mek = [0x4B; 64]; // stands for a key

@@ -25,6 +25,14 @@ impl Drive {
         mailbox(&MAP, cells, marks, context, code, request, response, block)
     }
 
+    /// A command without an order for the engine has to be carried out.
+    fn carry_out(&mut self, command: &str, code: u32, request: &mut [u8]) -> Step {
+        match self.ask(code, request) {
+            Reply::Accepted { order: Order::None, .. } => Ok(()),
+            other => failed(command, other),
+        }
+    }
+
     /// Prints the places that are not empty, and answers how many there are.
     pub fn list_places(&self) -> usize {
         let named = |i| match self.context.place(i) {
@@ -111,16 +119,35 @@ impl Drive {
     /// it must be as long as the slot has its seed, and not after.
     pub fn ask_for_status(&mut self, must_be_available: bool) -> Step {
         let mut request = [0; 8]; // chksum, reserved
-        match self.ask(code::FSTA, &mut request) {
-            Reply::Accepted { order: Order::None, .. } => {}
-            other => return failed("FSTA", other),
-        }
+        self.carry_out("FSTA", code::FSTA, &mut request)?;
         let (active, available) = (field(&self.response, 12), field(&self.response, 16));
         println!("FSTA: active slot 0x{active:08X}, HEK available {available}");
         match available == u32::from(must_be_available) {
             true => Ok(()),
             false => failed("FSTA, HEK available", available),
         }
+    }
+
+    /// Prints the handles of the table, each with its algorithm.
+    pub fn list_handles(&mut self) -> Step {
+        let mut request = [0; 8]; // chksum, reserved
+        self.carry_out("EHDL", code::EHDL, &mut request)?;
+        let count = field(&self.response, 12) as usize;
+        let listed = self.response[16..].chunks_exact(8).take(count);
+        let named = |pair| format!("handle {} algorithm {}", field(pair, 0), field(pair, 4));
+        println!("EHDL: {}", listed.map(named).collect::<Vec<_>>().join(", "));
+        Ok(())
+    }
+
+    /// Gives a handle its next number, which is all that the key block does. Here a drive
+    /// rotates the keypair, and saves the context before the response goes to the host, so
+    /// that the number is not given again after a loss of power.
+    pub fn rotate_handle(&mut self, handle: u32) -> Step {
+        let mut request = [0; 12]; // chksum, reserved, hpke_handle
+        put_field(&mut request, 8, handle);
+        self.carry_out("RHPK", code::RHPK, &mut request)?;
+        println!("RHPK: handle {handle} becomes {}", field(&self.response, 12));
+        Ok(())
     }
 }
 

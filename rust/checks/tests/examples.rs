@@ -3,7 +3,8 @@
 //! and what the next erasure answers; loads take the places 0 and 1 ("Active slot and key cache"),
 //! an erasure of the slot is refused with 10 in between, and an erased slot is not active. What a
 //! place is before and after each reply of the engine, and what is refused with 17 and 18, is
-//! document 02's P5; why there is no key is its P1.
+//! document 02's P5; why there is no key is its P1. The new number of the handle 1, beside a 2, and
+//! that the restart leaves it, is its P6.
 //!
 //! With a stuck mark on cell 1 the last erasure is that of case 3 (0F: 60 of 64
 //! ones, erased) or of case 4 (1F: 59 of 64 ones, short 1, torn), with one on cell 5
@@ -21,6 +22,10 @@ map: 2 partitions, 12 cells, bound 60
 partition 0: first cell 0, 6 cells, kind 0, flags 7
 partition 1: first cell 6, 6 cells, kind 1, flags 0
 states: 0 programmed, 3 short; 1 blank, 3 short
+table: made
+EHDL: handle 1 algorithm 1, handle 2 algorithm 2
+RHPK: handle 1 becomes 3
+EHDL: handle 3 algorithm 1, handle 2 algorithm 2
 FSTA: active slot 0x00000000, HEK available 1
 KLOD: load place 0, timeout 1000
 places: 0 waiting
@@ -41,6 +46,7 @@ places: all empty
 erasure cut: 2 burns
 restart
 places: all empty
+EHDL: handle 3 algorithm 1, handle 2 algorithm 2
 states: 0 torn, SHORT short; 1 blank, 3 short
 ";
 
