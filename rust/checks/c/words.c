@@ -1,7 +1,7 @@
 /* Document 01, "The small drive", from C: the direct commands, which the example does not
  * show, and every field of their answers, of a mailbox's reply, an erasure that is refused and
- * one that ends with a short indicator and, by document 02, P1, P2 and P5, of reasons, of maps
- * that are written, and of a place after each reply of the engine. */
+ * one that ends with a short indicator and, by document 02, P1, P2, P5 and P6, of reasons, of
+ * maps that are written, of a place after each reply of the engine, and of a table of handles. */
 #include "sciambrunola.h"
 
 #include <inttypes.h>
@@ -28,6 +28,16 @@ static const uint32_t torn[CELLS] = {
     0xFFFFFFFF, 0xFFFFFFFF  /* the indicator */
 };
 static sci_context context = {0};
+static uint8_t response[SCI_LEAST_RESPONSE];
+
+static void print_bytes(const uint8_t *bytes, size_t count)
+{
+    size_t i;
+    for (i = 0; i < count; i++) {
+        printf(" %02X", bytes[i]);
+    }
+    printf("\n");
+}
 
 static void print_answer(const char *name, sci_answer answer)
 {
@@ -56,15 +66,23 @@ static void print_place(void)
     printf("; place 0: kind %" PRIu32 ", tag %" PRIX64 "\n", place.kind, place.tag);
 }
 
-static void print_mail(const char *name, uint32_t code, const uint8_t *request, size_t bytes)
+static uint32_t print_mail(const char *name, uint32_t code, const uint8_t *request, size_t bytes)
 {
-    uint8_t response[SCI_LEAST_RESPONSE], block[SCI_BLOCK_BYTES];
+    uint8_t block[SCI_BLOCK_BYTES];
     sci_reply reply = sci_mailbox(DRIVE, code, request, bytes, response, sizeof response, block,
                                   sizeof block);
     printf("%s: refusal %" PRIu32 ", length %" PRIu32 ", order %" PRIu32 ", place %" PRIu32
            ", timeout %" PRIu32, name, reply.refusal, reply.length, reply.order, reply.place,
            reply.timeout);
     print_place();
+    return reply.length;
+}
+
+static void print_response(const char *name, uint32_t code, const uint8_t *request, size_t bytes)
+{
+    uint32_t length = print_mail(name, code, request, bytes);
+    printf("response:");
+    print_bytes(response, length);
 }
 
 static void print_reply(uint32_t reply)
@@ -84,14 +102,55 @@ static void print_keys(void)
         SCI_ENGINE_TIMED_OUT, SCI_ENGINE_FAILED, 0, 4, 0xFFFFFFFF, SCI_ENGINE_DONE
     };
     size_t i;
-    print_mail("KLOD", SCI_KLOD, klod, sizeof klod);
-    print_mail("KLOD", SCI_KLOD, klod, sizeof klod);
+    (void)print_mail("KLOD", SCI_KLOD, klod, sizeof klod);
+    (void)print_mail("KLOD", SCI_KLOD, klod, sizeof klod);
     print_reply(SCI_ENGINE_DONE);
     print_reply(SCI_ENGINE_DONE);
     for (i = 0; i < sizeof replies / sizeof replies[0]; i++) {
-        print_mail("CLKC", SCI_CLKC, clkc, sizeof clkc);
+        (void)print_mail("CLKC", SCI_CLKC, clkc, sizeof clkc);
         print_reply(replies[i]);
     }
+}
+
+static void print_table(const uint32_t *handles, size_t handle_count, size_t algorithm_count)
+{
+    static const uint32_t algorithms[SCI_HANDLES + 1] = {0x12345678, 2, 2, 4};
+    printf("table of %zu, %zu: refusal %" PRIu32 "\n", handle_count, algorithm_count,
+           sci_make_table(&context, handles, handle_count, algorithms, algorithm_count));
+}
+
+/* Tables that are none, one that is made, and a second. */
+static void print_tables(void)
+{
+    static const uint32_t handles[SCI_HANDLES + 1] = {0xFFFFFFFD, 5, 9, 7};
+    static const uint32_t equal[SCI_HANDLES] = {5, 9, 5};
+    print_table(handles, 0, 0);
+    print_table(handles, SCI_HANDLES + 1, SCI_HANDLES + 1);
+    print_table(handles, 2, 1);
+    print_table(handles, 2, 3);
+    print_table(equal, SCI_HANDLES, SCI_HANDLES);
+    print_table(handles, SCI_HANDLES, SCI_HANDLES);
+    print_table(handles, 1, 1);
+}
+
+/* The handles are listed, and rotated until the numbers are used up. */
+static void print_handles(void)
+{
+    static const uint8_t ehdl[8] = {0xE3, 0xFE, 0xFF, 0xFF};
+    static const uint8_t rhpk[][12] = {
+        {0xC6, 0xFE, 0xFF, 0xFF, [8] = 5}, /* the second */
+        {0xC6, 0xFE, 0xFF, 0xFF, [8] = 5}, /* which is there no longer */
+        {0xC2, 0xFE, 0xFF, 0xFF, [8] = 9}, /* the third, by the last number */
+        {0xD1, 0xFA, 0xFF, 0xFF, [8] = 0xFD, 0xFF, 0xFF, 0xFF} /* the first */
+    };
+    size_t i;
+    (void)print_mail("EHDL", SCI_EHDL, ehdl, sizeof ehdl);
+    print_tables();
+    print_response("EHDL", SCI_EHDL, ehdl, sizeof ehdl);
+    for (i = 0; i < sizeof rhpk / sizeof rhpk[0]; i++) {
+        print_response("RHPK", SCI_RHPK, rhpk[i], sizeof rhpk[i]);
+    }
+    print_response("EHDL", SCI_EHDL, ehdl, sizeof ehdl);
 }
 
 /* The map of a text, with this room; the byte behind it must stay. */
@@ -99,14 +158,10 @@ static void print_map(const char *text, size_t room)
 {
     uint8_t written[SCI_LONGEST_IMAGE + 1];
     sci_written map;
-    size_t i;
     memset(written, 0xA5, sizeof written);
     map = sci_write_map((const uint8_t *)text, strlen(text), written, room);
     printf("map: refusal %" PRIu32 ", bytes %" PRIu32 ",", map.refusal, map.bytes);
-    for (i = 0; i < map.bytes + 1; i++) {
-        printf(" %02X", written[i]);
-    }
-    printf("\n");
+    print_bytes(written, map.bytes + 1);
 }
 
 int main(void)
@@ -119,6 +174,7 @@ int main(void)
     print_answer("ZEROIZE 6", sci_zeroize(DRIVE, 6));
     print_erasure(sci_erase(DRIVE, 0));
     print_erasure(sci_erase(WEAK, 0));
+    print_handles();
     print_keys();
     print_reason("why", cells, CELLS);
     print_reason("why, torn", torn, CELLS);

@@ -1,14 +1,17 @@
 //! Callers. A C program is compiled with every warning an error, linked and run; its lines are
 //! written from the documents. Every fuse of the indicator is stuck: it stops an erasure, so that
-//! the slot is still programmed and its HEK available. On another drive, with the mark 1F on cell
-//! 5 instead, ZEROIZE gives the indicator 59 ones, one below the bound, and withholds it; the
-//! erasure that follows ends with that pair short. Other cells have the indicator set and three
-//! fuses of the digest: they are torn. A key is loaded, and the engine's reply to it handed in
-//! twice; then the cache is cleared again and again, with every other reply first, numbers that are
-//! no reply among them, which count as failed, and with done last. The maps are the header's two
-//! texts, then one with too little room, one without its last line feed, and one with a slot that
-//! is not secret. A program that drops an erasure's answer is warned by its compiler, in C and in
-//! Rust: an erasure that ended is not yet an erased partition.
+//! the slot is still programmed and its HEK available. On another drive, with the mark 1F on cell 5
+//! instead, ZEROIZE gives the indicator 59 ones, one below the bound, and withholds it; the erasure
+//! that follows ends with that pair short. Other cells have the indicator set and three fuses of
+//! the digest: they are torn. EHDL is refused while there is no table. No table is made of handles
+//! that are none, four, equal two of them, or not as many as their algorithms; then one is made,
+//! and a second is refused. Its first handle is two below the last number: two rotations use the
+//! numbers up. A key is loaded, and the engine's reply to it handed in twice; then the cache is
+//! cleared again and again, with every other reply first, numbers that are no reply among them,
+//! which count as failed, and with done last. The maps are the header's two texts, then one with
+//! too little room, one without its last line feed, and one with a slot that is not secret. A
+//! program that drops an erasure's answer is warned by its compiler, in C and in Rust: an erasure
+//! that ended is not yet an erased partition.
 
 use checks::runner::{compiled, in_repository, run};
 use std::path::{Path, PathBuf};
@@ -23,6 +26,28 @@ ZEROIZE 4: kind 2, refusal 0, word 0
 ZEROIZE 6: kind 3, refusal 8, word 0
 erasure: kind 2, refusal 15, short 0, first 0, burns 1
 erasure: kind 0, refusal 0, short 1, first 4, burns 3
+EHDL: refusal 2, length 0, order 0, place 0, timeout 0; place 0: kind 0, tag 0
+table of 0, 0: refusal 2
+table of 4, 4: refusal 2
+table of 2, 1: refusal 2
+table of 2, 3: refusal 2
+table of 3, 3: refusal 2
+table of 3, 3: refusal 0
+table of 1, 1: refusal 2
+EHDL: refusal 0, length 40, order 0, place 0, timeout 0; place 0: kind 0, tag 0
+response: DD FA FF FF 00 00 00 00 00 00 00 00 03 00 00 00 FD FF FF FF 78 56 34 12 \
+05 00 00 00 02 00 00 00 09 00 00 00 02 00 00 00
+RHPK: refusal 0, length 16, order 0, place 0, timeout 0; place 0: kind 0, tag 0
+response: 05 FC FF FF 00 00 00 00 00 00 00 00 FE FF FF FF
+RHPK: refusal 20, length 0, order 0, place 0, timeout 0; place 0: kind 0, tag 0
+response:
+RHPK: refusal 0, length 16, order 0, place 0, timeout 0; place 0: kind 0, tag 0
+response: 04 FC FF FF 00 00 00 00 00 00 00 00 FF FF FF FF
+RHPK: refusal 21, length 0, order 0, place 0, timeout 0; place 0: kind 0, tag 0
+response:
+EHDL: refusal 0, length 40, order 0, place 0, timeout 0; place 0: kind 0, tag 0
+response: F4 F2 FF FF 00 00 00 00 00 00 00 00 03 00 00 00 FD FF FF FF 78 56 34 12 \
+FE FF FF FF 02 00 00 00 FF FF FF FF 02 00 00 00
 KLOD: refusal 0, length 16, order 2, place 0, timeout 6; place 0: kind 2, tag 700000005
 KLOD: refusal 12, length 0, order 0, place 0, timeout 0; place 0: kind 2, tag 700000005
 reply 1: refusal 0; place 0: kind 1, tag 700000005
