@@ -1,14 +1,15 @@
 //! The key block once more, as an engineer writes it in safe Rust from the
 //! documents for firmware in which speed does not matter: no allocation, and a test
 //! that fails ends the call. It shares no code with the model but the names of states,
-//! reasons, orders, places and replies, and none with the library; it is what the library's
-//! times are divided by.
+//! reasons, orders, places, replies and handles, and none with the library; it is what the
+//! library's times are divided by.
 //!
 //! The calls are not inlined, since those of the library cannot be.
 
 mod cache;
 mod erasure;
 mod fuses;
+mod handles;
 mod mailbox;
 mod map;
 mod text;
@@ -16,7 +17,7 @@ mod text;
 pub use cache::engine_reply;
 pub use erasure::{erase, Erased};
 pub use fuses::{states, why};
-pub use mailbox::{mailbox, Buffers};
+pub use mailbox::{mailbox, Buffers, Kept};
 pub use map::{Entry, Header};
 pub use text::write_map;
 

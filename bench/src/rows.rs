@@ -4,8 +4,8 @@ use checks::largest::{self, every_state, last_slot_active, last_slot_torn, TAIL}
 use checks::maps::MOST_CELLS as CELLS;
 use checks::{lent, small, texts};
 use model::{
-    entry, Call, Drive, EngineReply, Erase, Image, KeyBlock, Lent, Mail, Model, Request, Values,
-    HARDWARE, SLOT_FLAGS, SOFTWARE, ZEROIZABLE,
+    entry, Call, Drive, EngineReply, Erase, Image, KeyBlock, Lent, Mail, Model, Request, Table,
+    Values, HARDWARE, SLOT_FLAGS, SOFTWARE, ZEROIZABLE,
 };
 use sciambrunola::LONGEST_IMAGE;
 
@@ -15,6 +15,10 @@ const HELD: usize = 8;
 const FIRST_TAG: u64 = 0x0123_4567_89AB_CD00;
 const LAST_TAG: u64 = FIRST_TAG + HELD as u64 - 1;
 
+/// The handles of a full table, of which RHPK names the last, and their algorithms.
+const HANDLES: [u32; 3] = [0x0301, 0x0204, 0x0102];
+const ALGORITHMS: [u32; 3] = [1, 2, 4];
+
 /// A row of the table.
 pub struct Row {
     /// What the table calls it.
@@ -23,8 +27,8 @@ pub struct Row {
     pub start: Lent,
     /// The call. Made again it does the same work again, on what it left itself.
     pub call: Call,
-    /// Whether that holds only if the cache, with the awaited reply, is as it was at the
-    /// start: then it is put back before each call.
+    /// Whether that holds only if the cache, with the awaited reply, and the table are as they
+    /// were at the start: then they are put back before each call.
     pub put_back: bool,
 }
 
@@ -70,13 +74,16 @@ fn row(name: &str, drive: Drive, call: Call) -> Row {
 fn mailbox(command: Mail, drive_name: &str, drive: Drive) -> Row {
     // KLOD names the tag after the last.
     let tag = if command == Mail::Klod { LAST_TAG + 1 } else { LAST_TAG };
-    let values = Values { timeout: 1000, tag, mek: [0x6B; 64], ..Values::default() };
+    let (mek, handle) = ([0x6B; 64], HANDLES[2]);
+    let values = Values { timeout: 1000, tag, mek, handle, ..Values::default() };
     let call = Call::Mailbox(Request::of(command, &values));
     let mut row = row(&format!("{}, {drive_name}", command.name()), drive, call);
+    row.start.table = Table::fresh(&HANDLES, &ALGORITHMS).expect("they make a table");
     if matches!(command, Mail::Clkc | Mail::Klod | Mail::Kunl) {
         row.start = lent::holding(row.start, FIRST_TAG..=LAST_TAG);
         row.put_back = true;
     }
+    row.put_back |= command == Mail::Rhpk;
     row
 }
 

@@ -8,14 +8,14 @@ pub use by_plain::Plain;
 use crate::rows::Row;
 use checks::calls::difference;
 use checks::{context, proved};
-use model::{Cache, Call, KeyBlock, Lent, Model, Said};
+use model::{Call, KeyBlock, Lent, Model, Said};
 use sciambrunola::Context;
 
 /// A key block with what it is lent.
 pub trait Side {
     /// Makes a call.
     fn answer(&mut self, call: &Call) -> Said;
-    /// Makes the cache, with the awaited reply, what it was at the start.
+    /// Makes the cache, with the awaited reply, and the table what they were at the start.
     fn put_back(&mut self);
     /// What the calls have left.
     fn left(&self) -> Lent;
@@ -30,12 +30,12 @@ pub const MODEL: usize = 2;
 
 /// The sides, each at the start of a row.
 pub fn of(row: &Row) -> [Box<dyn Side>; 3] {
-    let (lent, start) = (row.start.clone(), row.start.cache.clone());
-    let context = context::of(&lent);
+    let lent = || row.start.clone();
+    let context = context::of(&row.start);
     [
-        Box::new(Library { lent: lent.clone(), start: context.clone(), context }),
-        Box::new(WithCache { block: Plain, lent: lent.clone(), start: start.clone() }),
-        Box::new(WithCache { block: Model, lent, start }),
+        Box::new(Library { lent: lent(), start: context.clone(), context }),
+        Box::new(Keeping { block: Plain, lent: lent(), start: lent() }),
+        Box::new(Keeping { block: Model, lent: lent(), start: lent() }),
     ]
 }
 
@@ -89,20 +89,21 @@ impl Side for Library {
     }
 }
 
-/// A key block that has its cache in what is lent.
-struct WithCache<B> {
+/// A key block that has cache and table in what is lent.
+struct Keeping<B> {
     block: B,
     lent: Lent,
-    start: Cache,
+    start: Lent,
 }
 
-impl<B: KeyBlock> Side for WithCache<B> {
+impl<B: KeyBlock> Side for Keeping<B> {
     fn answer(&mut self, call: &Call) -> Said {
         self.block.answer(&mut self.lent, call)
     }
 
     fn put_back(&mut self) {
-        self.lent.cache.clone_from(&self.start);
+        self.lent.cache.clone_from(&self.start.cache);
+        self.lent.table.clone_from(&self.start.table);
     }
 
     fn left(&self) -> Lent {

@@ -1,11 +1,19 @@
-//! Document 01, "Mailbox", with the engine block; document 02, P5.
+//! Document 01, "Mailbox", with the engine block; document 02, P5 and P6.
 
 use super::fuses::active_slot;
 use super::map::Map;
-use super::{cache, erasure, Drive, Refusal};
-use model::{Cache, Order, State};
+use super::{cache, erasure, handles, Drive, Refusal};
+use model::{Cache, Order, State, Table};
 
-/// What the mailbox is lent besides drive and cache.
+/// What is kept between calls.
+pub struct Kept<'a> {
+    /// The key cache.
+    pub keys: &'a mut Cache,
+    /// The table of handles.
+    pub table: &'a mut Table,
+}
+
+/// What the mailbox is lent besides.
 pub struct Buffers<'a> {
     /// The request.
     pub request: &'a [u8],
@@ -22,27 +30,29 @@ const NONE: u32 = 0xFFFF_FFFF;
 #[inline(never)]
 pub fn mailbox(
     drive: &mut Drive,
-    keys: &mut Cache,
+    kept: Kept,
     code: u32,
     buffers: Buffers,
 ) -> Result<(usize, Order), Refusal> {
     let map = drive.map()?;
-    if buffers.block.len() != 128 || buffers.response.len() < 20 {
+    if buffers.block.len() != 128 || buffers.response.len() < 40 {
         return Err(2);
     }
+    handles::judge(kept.table)?;
     judge_request(code, buffers.request)?;
-    carry_out(&map, drive, keys, code, buffers)
+    carry_out(&map, drive, kept, code, buffers)
 }
 
 /// What each command does, by its own refusals.
 fn carry_out(
     map: &Map,
     drive: &mut Drive,
-    keys: &mut Cache,
+    kept: Kept,
     code: u32,
     buffers: Buffers,
 ) -> Result<(usize, Order), Refusal> {
     let Buffers { request, response, block } = buffers;
+    let keys = &mut *kept.keys;
     match &code.to_be_bytes() {
         b"CLKC" => {
             cache::clear(keys)?;
@@ -59,28 +69,51 @@ fn carry_out(
             write_block(block, &[], tag_of(request));
             Ok((respond(response, &[]), Order::Unload { place, timeout: u32_at(request, 8) }))
         }
+        _ => Ok((tell(map, drive, kept, code, request, response)?, Order::None)),
+    }
+}
+
+/// What each command does that has no order, and the length of its response.
+fn tell(
+    map: &Map,
+    drive: &mut Drive,
+    Kept { keys, table }: Kept,
+    code: u32,
+    request: &[u8],
+    response: &mut [u8],
+) -> Result<usize, Refusal> {
+    Ok(match &code.to_be_bytes() {
         b"FERS" => {
             let entry = erasure::judge(map, keys, u32_at(request, 8))?;
             cache::judge_idle(keys)?;
             let erased = erasure::run(map, drive, entry)?;
             let first_short = erased.first_short.unwrap_or(NONE);
-            Ok((respond(response, &[erased.short_pairs, first_short]), Order::None))
+            respond(response, &[erased.short_pairs, first_short])
+        }
+        b"EHDL" => {
+            cache::judge_idle(keys)?;
+            let (fields, count) = handles::list(table);
+            respond(response, &fields[..count])
+        }
+        b"RHPK" => {
+            cache::judge_idle(keys)?;
+            respond(response, &[handles::rotate(table, u32_at(request, 8))?])
         }
         _ => {
             let active = active_slot(map, drive.cells);
             let told = |(slot, state)| [slot, (state == State::Programmed).into()];
-            Ok((respond(response, &active.map_or([NONE, 0], told)), Order::None))
+            respond(response, &active.map_or([NONE, 0], told))
         }
-    }
+    })
 }
 
 /// Refusals 3 to 6.
 fn judge_request(code: u32, request: &[u8]) -> Result<(), Refusal> {
     let length = match &code.to_be_bytes() {
-        b"CLKC" | b"FERS" => 12,
+        b"CLKC" | b"FERS" | b"RHPK" => 12,
         b"KLOD" => 84,
         b"KUNL" => 20,
-        b"FSTA" => 8,
+        b"FSTA" | b"EHDL" => 8,
         _ => return Err(3),
     };
     if request.len() != length {

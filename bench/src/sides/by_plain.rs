@@ -1,16 +1,16 @@
 //! The plain Rust as a key block.
 
-use crate::plain::{self, Buffers, Drive, Entry, Erased, Header};
+use crate::plain::{self, Buffers, Drive, Entry, Erased, Header, Kept};
 use model::{Call, Erase, Erasure, KeyBlock, Lent, Model, Reply, Said, State, PARTITIONS};
 
-/// The plain Rust. It has no direct commands, no cuts, no restart and no call for
-/// a place: those are the model's own.
+/// The plain Rust. It has no direct commands, no cuts, no restart, no making of a table and no
+/// call for a place: those are the model's own.
 pub struct Plain;
 
 impl KeyBlock for Plain {
     #[inline]
     fn answer(&mut self, lent: &mut Lent, call: &Call) -> Said {
-        let Lent { drive, cache, response, block, output, .. } = lent;
+        let Lent { drive, cache, table, response, block, output, .. } = lent;
         let mut drive = Drive { image: &drive.image, cells: &mut drive.cells, marks: &drive.marks };
         match call {
             Call::Partition(number) => Said::Fields(fields(drive.image, *number)),
@@ -30,7 +30,8 @@ impl KeyBlock for Plain {
             }
             Call::Mailbox(request) => {
                 let buffers = Buffers { request: &request.bytes, response, block };
-                let told = plain::mailbox(&mut drive, cache, request.code, buffers);
+                let kept = Kept { keys: cache, table };
+                let told = plain::mailbox(&mut drive, kept, request.code, buffers);
                 Said::Reply(match told {
                     Ok((length, order)) => Reply::Accepted { length, order },
                     Err(number) => Reply::Refused(number),
