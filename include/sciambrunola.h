@@ -646,9 +646,9 @@ uint32_t sci_make_table(sci_context *context,
  * EHDL tells the handles of the table, in its order, with their algorithms. It changes
  * nothing but the response; there is no order for the engine.
  * RHPK replaces the handle that it names by the number after the greatest ever given, and
- * tells that. If the table has the handle more than once, which no table has that our
- * calls made, the lowest place is meant. The algorithm and the block are unchanged, and
- * there is no order for the engine.
+ * tells that. Where the handle is there more than once, which a table by sci_make_table
+ * never comes to, the lowest place is meant. The algorithm and the block are unchanged,
+ * and there is no order for the engine.
  *
  * The response buffer has SCI_LEAST_RESPONSE bytes or more, the block has
  * SCI_BLOCK_BYTES: the engine's registers from 00h on, without CTRL at 80h. Where
