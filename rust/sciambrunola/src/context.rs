@@ -51,7 +51,8 @@ impl Context {
         }
     }
 
-    /// The context whose [`words`](Context::words) were saved, by this version.
+    /// The context whose [`words`](Context::words) were saved, by this version. It has the
+    /// key cache of then: call [`restart`](crate::restart).
     #[must_use]
     pub const fn from_words(words: [u64; CONTEXT_WORDS]) -> Context {
         Context { words }
