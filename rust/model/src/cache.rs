@@ -114,7 +114,7 @@ impl Cache {
 }
 
 /// "A restart empties the cache and changes nothing else"; P5: "A cut or restart empties all
-/// places and drops an awaited reply."
+/// places and drops an awaited reply." P6: the table, "which a restart leaves".
 pub fn restart(before: &Lent) -> Lent {
     Lent { cache: Cache::default(), ..before.clone() }
 }

@@ -1,4 +1,4 @@
-//! Document 01, and P1, P2 and P5 of document 02: every call of the key block, what it answers,
+//! Document 01, and P1, P2, P5 and P6 of document 02: every call of the key block, what it answers,
 //! and the model as one key block among others.
 
 use crate::direct::{self, Answer, Command};
@@ -9,7 +9,7 @@ use crate::mailbox::request::Request;
 use crate::mailbox::{self, fields, Reply};
 use crate::refusal::Refusal;
 use crate::why::{self, Reason};
-use crate::{cache, reading, text};
+use crate::{cache, handles, reading, text};
 use std::fmt;
 
 /// A call, with all that it is given besides what is lent.
@@ -33,6 +33,9 @@ pub enum Call {
     Mailbox(Request),
     /// Document 02, P5: "the drive hands us the engine's reply".
     EngineReply(EngineReply),
+    /// Document 02, P6: a fresh table, of these handles with their algorithms.
+    #[allow(missing_docs)]
+    MakeTable { handles: Vec<u32>, algorithms: Vec<u32> },
     /// "Active slot and key cache": "A restart empties the cache".
     Restart,
 }
@@ -60,6 +63,8 @@ pub enum Said {
     Reply(Reply),
     /// The engine's reply is taken, or the number of the refusal.
     Taken(Result<(), u32>),
+    /// The table is made, or the number of the refusal.
+    Made(Result<(), u32>),
     /// A restart answers nothing.
     Nothing,
 }
@@ -88,6 +93,9 @@ impl KeyBlock for Model {
             Call::Erase(erase) => told(erasure::erase(lent, *erase), Said::Erasure),
             Call::Mailbox(request) => told(mailbox::mailbox(lent, request), Said::Reply),
             Call::EngineReply(reply) => told(engine::reply(lent, *reply), Said::Taken),
+            Call::MakeTable { handles, algorithms } => {
+                told(handles::make(lent, handles, algorithms), Said::Made)
+            }
             Call::Restart => (Said::Nothing, cache::restart(lent)),
         };
         *lent = after;
@@ -116,6 +124,7 @@ impl Call {
             Call::Erase(Erase { cut: Some(_), .. }) => "cut erasure",
             Call::Mailbox(request) => request.command().map_or("other", fields::Command::name),
             Call::EngineReply(_) => "engine reply",
+            Call::MakeTable { .. } => "make table",
             Call::Restart => "restart",
         }
     }
@@ -130,6 +139,9 @@ impl Call {
             Call::Erase(erase) => erasure::applying(before, *erase),
             Call::Mailbox(request) => mailbox::applying(before, request),
             Call::EngineReply(_) => engine::applying(before),
+            Call::MakeTable { handles, algorithms } => {
+                handles::applying(before, handles, algorithms)
+            }
             Call::Place(_) | Call::Restart => vec![],
         }
     }
@@ -143,7 +155,8 @@ impl Said {
             Said::Listing([number, _]) | Said::Written([number, _]) => Some(number),
             Said::Reason(Err(number)) | Said::Answer(Answer::Refused(number)) => Some(number),
             Said::Erasure(Erasure::Refused { number, .. }) => Some(number),
-            Said::Reply(Reply::Refused(number)) | Said::Taken(Err(number)) => Some(number),
+            Said::Reply(Reply::Refused(number)) => Some(number),
+            Said::Taken(Err(number)) | Said::Made(Err(number)) => Some(number),
             _ => None,
         }
         .filter(|number| *number != 0)

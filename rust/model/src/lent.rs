@@ -1,8 +1,9 @@
-//! Document 01, "Burning and counting", "Active slot and key cache" and "Mailbox", and P2
-//! and P5 of document 02: everything that a caller lends to a call.
+//! Document 01, "Burning and counting", "Active slot and key cache" and "Mailbox", and P2,
+//! P5 and P6 of document 02: everything that a caller lends to a call.
 
 use crate::cache::Cache;
 use crate::drive::Drive;
+use crate::handles::Table;
 
 /// "partition count P (1..16)": the most partitions of a map.
 pub const PARTITIONS: usize = 16;
@@ -16,6 +17,8 @@ pub struct Lent {
     pub drive: Drive,
     /// "Active slot and key cache": the key cache, with P5's awaited reply.
     pub cache: Cache,
+    /// Document 02, P6: the table of handles.
+    pub table: Table,
     /// "Active slot and key cache": the engine block, as the lent buffer for it.
     pub block: Vec<u8>,
     /// "Mailbox": the response buffer.

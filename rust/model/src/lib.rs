@@ -1,4 +1,4 @@
-//! A plain reading of document 01, and of P1, P2, P4 and P5 of document 02, written from the
+//! A plain reading of document 01, and of P1, P2, P4, P5 and P6 of document 02, written from the
 //! documents alone.
 //!
 //! Each file names the section or the request that it reads. Nothing here is
@@ -13,6 +13,7 @@ pub mod drive;
 pub mod engine;
 pub mod erasure;
 pub mod fuse;
+pub mod handles;
 pub mod image;
 pub mod lent;
 pub mod mailbox;
@@ -31,6 +32,7 @@ pub use direct::{Answer, Command};
 pub use drive::Drive;
 pub use engine::EngineReply;
 pub use erasure::{Cut, Erase, Erasure};
+pub use handles::{Handle, Table, HANDLES};
 pub use image::{entry, Image, SLOT_FLAGS};
 pub use lent::{Lent, PARTITIONS};
 pub use mailbox::fields::Command as Mail;

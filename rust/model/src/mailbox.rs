@@ -1,4 +1,4 @@
-//! Document 01, "Mailbox", as P5 of document 02 changes it.
+//! Document 01, "Mailbox", as P5 and P6 of document 02 change it.
 
 pub mod block;
 pub mod fields;
@@ -7,12 +7,16 @@ pub mod sum;
 
 use crate::cache::{Awaited, Place};
 use crate::erasure::{self, Erase, Erasure};
+use crate::handles::Handle;
 use crate::lent::Lent;
 use crate::refusal::{self, Refusal};
 use crate::slot;
 use block::BLOCK_BYTES;
 use fields::{Command, Field};
 use request::Request;
+
+/// P6: "The smallest response buffer becomes 40 bytes".
+pub const LEAST_RESPONSE: usize = 40;
 
 /// "Mailbox": the engine order, "none, or clear with the timeout, or load or
 /// unload with place and timeout".
@@ -63,6 +67,8 @@ fn carry_out(lent: &mut Lent, request: &Request) -> Option<Reply> {
         Command::Kunl => unload(lent, request)?,
         Command::Fers => erase(lent, request)?,
         Command::Fsta => status(lent)?,
+        Command::Ehdl => list(lent)?,
+        Command::Rhpk => (Order::None, vec![lent.table.rotate(request.handle()?)?]),
     };
     // "every response chksum, fips_status (0), reserved (0)"
     let mut response = vec![0; 12];
@@ -131,10 +137,18 @@ fn status(lent: &Lent) -> Option<Done> {
     Some((Order::None, vec![active, slot::hek_available(&map, cells).into()]))
 }
 
+/// EHDL answers "count, then handle and algorithm for each".
+fn list(lent: &Lent) -> Option<Done> {
+    let handles = lent.table.listed()?;
+    let each = |handle: &Handle| [handle.number, handle.algorithm];
+    let count = handles.len() as u32;
+    Some((Order::None, [count].into_iter().chain(handles.iter().flat_map(each)).collect()))
+}
+
 /// "Refusal numbers": every refusal that applies to the request, each tested by
 /// itself. A test with nothing to go by does not apply: an unknown code has no
-/// length and names no command, a request that ends too early lacks the field, and the HEK is not
-/// looked for without a good map and C cells.
+/// length and names no command, a request that ends too early lacks the field, the HEK is not
+/// looked for without a good map and C cells, and nothing in a table whose count is none.
 pub fn applying(lent: &Lent, request: &Request) -> Vec<Refusal> {
     let command = request.command();
     let exact = |command: Command| fields::length(command.request_fields());
@@ -166,15 +180,30 @@ pub fn applying(lent: &Lent, request: &Request) -> Vec<Refusal> {
             (Refusal::NoEmptyPlace, lent.cache.lowest_empty().is_none()),
         ]),
         Some(Command::Kunl) => tests.push((Refusal::TagNotHeld, held == Some(false))),
+        Some(Command::Rhpk) => tests.extend(handle_tests(lent, request)),
         _ => {}
     }
     refusal::that_apply(tests)
 }
 
-/// "cells or marks not C long; for the mailbox also block not 128 or response
-/// buffer under 20 bytes"
+/// P6: "20 no such handle, 21 numbers used up".
+fn handle_tests(lent: &Lent, request: &Request) -> [(Refusal, bool); 2] {
+    let there = lent.table.listed().is_some();
+    let missing = |handle| lent.table.lowest_with(handle).is_none();
+    [
+        (Refusal::NoHandle, there && request.handle().map_or(false, missing)),
+        (Refusal::NumbersUsedUp, there && lent.table.next().is_none()),
+    ]
+}
+
+/// "cells or marks not C long; for the mailbox also block not 128 or response buffer under 20
+/// bytes"; P6: "The smallest response buffer becomes 40 bytes, and a table count outside 1 to 3 is
+/// refused (both 2)."
 fn lengths_are_wrong(lent: &Lent) -> bool {
-    lent.drive.lengths_are_wrong() || lent.block.len() != BLOCK_BYTES || lent.response.len() < 20
+    lent.drive.lengths_are_wrong()
+        || lent.block.len() != BLOCK_BYTES
+        || lent.response.len() < LEAST_RESPONSE
+        || lent.table.listed().is_none()
 }
 
 /// "HEK not available"

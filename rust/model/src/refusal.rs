@@ -6,8 +6,8 @@ pub enum Refusal {
     /// "map breaks a rule above"
     BadMap = 1,
     /// "cells or marks not C long; for the mailbox also block not 128 or
-    /// response buffer under 20 bytes"; in the status program ("The small
-    /// drive") also a length or a map that is cut short
+    /// response buffer under 20 bytes", 40 by document 02, P6, "and a table count outside 1 to 3";
+    /// in the status program ("The small drive") also a length or a map that is cut short
     WrongLength = 2,
     /// "unknown code"
     UnknownCode = 3,
@@ -44,6 +44,10 @@ pub enum Refusal {
     PlaceUnsure = 18,
     /// Document 02, P5: "a reply when none is awaited"
     NotAwaited = 19,
+    /// Document 02, P6: "no such handle"
+    NoHandle = 20,
+    /// Document 02, P6: "numbers used up"
+    NumbersUsedUp = 21,
 }
 
 impl Refusal {

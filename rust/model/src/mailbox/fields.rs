@@ -1,9 +1,9 @@
-//! Document 01, "Mailbox": the table of its commands.
+//! Document 01, "Mailbox": the table of its commands, and P6's two.
 
-use Command::{Clkc, Fers, Fsta, Klod, Kunl};
-use Field::{Chksum, CmdTimeout, Mek, Partition, Reserved, TagHigh, TagLow};
+use Command::{Clkc, Ehdl, Fers, Fsta, Klod, Kunl, Rhpk};
+use Field::{Chksum, CmdTimeout, HpkeHandle, Mek, Partition, Reserved, TagHigh, TagLow};
 
-/// "Mailbox": a row of the table, by the command's name.
+/// "Mailbox": a row of the table, by the command's name; after them P6's messages.
 #[derive(Clone, Copy, Debug, PartialEq, Eq)]
 #[allow(missing_docs)]
 pub enum Command {
@@ -12,10 +12,12 @@ pub enum Command {
     Kunl,
     Fers,
     Fsta,
+    Ehdl,
+    Rhpk,
 }
 
-/// "Mailbox": the fields of requests, by the table's names. Every one is a u32
-/// but the "64 MEK bytes".
+/// "Mailbox": the fields of requests, by the table's names, and document 003's of a handle. Every
+/// one is a u32 but the "64 MEK bytes".
 #[derive(Clone, Copy, Debug, PartialEq, Eq)]
 #[allow(missing_docs)]
 pub enum Field {
@@ -26,14 +28,15 @@ pub enum Field {
     TagHigh,
     Mek,
     Partition,
+    HpkeHandle,
 }
 
 impl Command {
-    /// "Mailbox": the rows of the table.
-    pub const ALL: [Command; 5] = [Clkc, Klod, Kunl, Fers, Fsta];
+    /// All of them.
+    pub const ALL: [Command; 7] = [Clkc, Klod, Kunl, Fers, Fsta, Ehdl, Rhpk];
 
     /// "Mailbox": name, code and fields. "Every request begins chksum, reserved",
-    /// then the column "request after reserved".
+    /// then the column "request after reserved"; P6: EHDL "without further field", RHPK: "handle".
     fn row(self) -> (&'static str, u32, &'static [Field]) {
         match self {
             Clkc => ("CLKC", 0x434C_4B43, &[Chksum, Reserved, CmdTimeout]),
@@ -41,6 +44,8 @@ impl Command {
             Kunl => ("KUNL", 0x4B55_4E4C, &[Chksum, Reserved, CmdTimeout, TagLow, TagHigh]),
             Fers => ("FERS", 0x4645_5253, &[Chksum, Reserved, Partition]),
             Fsta => ("FSTA", 0x4653_5441, &[Chksum, Reserved]),
+            Ehdl => ("EHDL", 0x4548_444C, &[Chksum, Reserved]),
+            Rhpk => ("RHPK", 0x5248_504B, &[Chksum, Reserved, HpkeHandle]),
         }
     }
 

@@ -22,12 +22,13 @@ pub struct Values {
     pub tag: u64,
     pub mek: [u8; 64],
     pub partition: u32,
+    pub handle: u32,
 }
 
 /// A request in which everything is zero.
 impl Default for Values {
     fn default() -> Values {
-        Values { reserved: 0, timeout: 0, tag: 0, mek: [0; 64], partition: 0 }
+        Values { reserved: 0, timeout: 0, tag: 0, mek: [0; 64], partition: 0, handle: 0 }
     }
 }
 
@@ -42,6 +43,7 @@ impl Request {
             Field::TagHigh => values.tag.to_le_bytes()[4..].to_vec(),
             Field::Mek => values.mek.to_vec(),
             Field::Partition => values.partition.to_le_bytes().to_vec(),
+            Field::HpkeHandle => values.handle.to_le_bytes().to_vec(),
         };
         let bytes = command.request_fields().iter().flat_map(field).collect();
         let mut request = Request { code: command.code(), bytes };
@@ -80,6 +82,11 @@ impl Request {
     pub fn tag(&self) -> Option<u64> {
         let (low, high) = (self.number(Field::TagLow)?, self.number(Field::TagHigh)?);
         Some(u64::from(low) + (u64::from(high) << 32))
+    }
+
+    /// P6: the handle, if the command has it and the request reaches so far.
+    pub fn handle(&self) -> Option<u32> {
+        self.number(Field::HpkeHandle)
     }
 
     /// The bytes of a field, if the command has it and the request reaches so far.

@@ -16,27 +16,28 @@ fn request(command: Mail, timeout: u32, tag: u64) -> Request {
 }
 
 /// The request is accepted with this order and response; nothing past the
-/// response, nothing of the drive, and without an order nothing of cache and
+/// response, nothing of drive and table, and without an order nothing of cache and
 /// block changes. Gives what is lent afterwards.
 fn check(before: &Lent, request: &Request, order: Order, response: &[u8]) -> Lent {
     let (reply, after) = mailbox(before, request);
     assert_eq!(reply, Reply::Accepted { length: response.len(), order });
     assert_eq!(after.response, [response, &before.response[response.len()..]].concat());
-    assert_eq!(after.drive, before.drive);
+    assert_eq!((&after.drive, &after.table), (&before.drive, &before.table));
     if order == Order::None {
         assert_eq!((&after.cache, &after.block), (&before.cache, &before.block));
     }
     after
 }
 
-/// Codes, and lengths that follow from the columns of the table.
+/// Codes, and lengths that follow from the columns of the table; then P6's two.
 #[test]
-fn commands_are_those_of_the_table() {
-    let names = ["CLKC", "KLOD", "KUNL", "FERS", "FSTA"];
-    let codes = [0x434C_4B43, 0x4B4C_4F44, 0x4B55_4E4C, 0x4645_5253, 0x4653_5441];
-    assert_eq!((Mail::ALL.map(Mail::name), Mail::ALL.map(Mail::code)), (names, codes));
+fn commands_are_those_of_the_table_and_p6s() {
+    let names = ["CLKC", "KLOD", "KUNL", "FERS", "FSTA", "EHDL", "RHPK"];
+    let of_table = [0x434C_4B43, 0x4B4C_4F44, 0x4B55_4E4C, 0x4645_5253, 0x4653_5441];
+    let codes = [&of_table[..], &[0x4548_444C, 0x5248_504B]].concat();
+    assert_eq!((Mail::ALL.map(Mail::name), &Mail::ALL.map(Mail::code)[..]), (names, &codes[..]));
     let lengths = Mail::ALL.map(|command| fields::length(command.request_fields()));
-    assert_eq!(lengths, [12, 84, 20, 12, 8]);
+    assert_eq!(lengths, [12, 84, 20, 12, 8, 8, 12]);
 }
 
 /// Case 1: "active 0, available 1", and "0xFFFFFFFF" when every slot is erased.

@@ -1,5 +1,5 @@
 //! The model held to the sentences and numbers of document 01, a file for each
-//! section, and to those of document 02's P4 and P5 where they change them. Every expected
+//! section, and to those of document 02's P4, P5 and P6 where they change them. Every expected
 //! value is a document's, or follows from its rules.
 
 mod direct_commands;
@@ -14,6 +14,7 @@ use model::cache::{Awaited, Cache, Place};
 use model::direct::{direct, Answer, Command};
 use model::drive::Drive;
 use model::erasure::{erase, Cut, Erase, Erasure};
+use model::handles::{Handle, Table};
 use model::image::{entry, Image, SLOT_FLAGS};
 use model::lent::Lent;
 use model::mailbox::fields::Command as Mail;
@@ -28,10 +29,12 @@ const ALL: u32 = u32::MAX;
 type Cells<'a> = &'a [(usize, u32)];
 
 /// "The small drive", but for these cells and marks. Block and response buffer
-/// hold bytes that no answer has; the cache is empty.
+/// hold bytes that no answer has; the cache is empty, and the table has one handle.
 fn small(cells: Cells, marks: Cells) -> Lent {
-    let (block, response) = (vec![0xB1; 128], vec![0xA5; 24]);
-    with(&Lent { drive: Drive::small(), block, response, ..Lent::default() }, cells, marks)
+    let (block, response) = (vec![0xB1; 128], vec![0xA5; 44]);
+    let mut table = Table { count: 1, greatest: 5, ..Table::default() };
+    table.handles[0] = Handle { number: 5, algorithm: 1 };
+    with(&Lent { drive: Drive::small(), table, block, response, ..Lent::default() }, cells, marks)
 }
 
 /// A drive with a partition of each sort: a slot, a zeroizable hardware and a

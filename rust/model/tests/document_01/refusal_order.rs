@@ -1,6 +1,7 @@
 //! "Refusal numbers": "Checked in ascending order; the lowest that applies is
 //! given". A call breaks every rule; mended from the lowest number on, it is
-//! refused by one after the other. P5: 17 and 18 "after 14 and before 15".
+//! refused by one after the other. P5: 17 and 18 "after 14 and before 15"; P6: 20 and 21 "after
+//! 19".
 
 use super::*;
 use model::mailbox::sum;
@@ -19,20 +20,21 @@ fn check(lent: &Lent, call: &Call, expected: &[u32]) {
 }
 
 /// The small drive, its slot blank but for the digest and every fuse of its
-/// indicator stuck, the cache full of tag 9, a place of it waiting and one unsure, and a reply
-/// awaited; what has a lower number is mended: B of 32, a block that lacks a byte, and the slot
-/// without data.
+/// indicator stuck, the cache full of tag 9, a place of it waiting and one unsure, a reply
+/// awaited, and every number of a handle given; what has a lower number is mended: B of 32, a block
+/// that lacks a byte, and the slot without data.
 fn worst(lowest: u32) -> Lent {
     let mut lent = small(&[(0, u32::from(lowest > 11)), (2, 1)], &[(4, ALL), (5, ALL)]);
     lent.cache = Cache { places: [Place::Held(9); 16], awaited: Some(Awaited::Load) };
     lent.cache.places[..2].copy_from_slice(&[Place::Waiting(9), Place::Unsure(9)]);
+    lent.table.greatest = ALL.into();
     lent.drive.image[4] = if lowest > 1 { 60 } else { 32 };
     lent.block.truncate(if lowest > 2 { 128 } else { 127 });
     lent
 }
 
-/// A request; what has a lower number is mended: a byte too many, a wrong
-/// chksum, a reserved field of 1, and for KLOD a tag that is held.
+/// A request, for RHPK of a handle that is not there; what has a lower number is mended: a byte too
+/// many, a wrong chksum, a reserved field of 1, and for KLOD a tag that is held.
 fn request(lowest: u32, command: Mail, partition: u32) -> Request {
     let tag = if command == Mail::Klod && lowest <= 12 { 9 } else { 8 };
     let values = Values { tag, partition, ..Values::default() };
@@ -45,7 +47,7 @@ fn request(lowest: u32, command: Mail, partition: u32) -> Request {
 /// The refusals of a request that breaks every rule, the map's among them or not.
 #[test]
 fn mailbox_refuses_with_the_first_number_each_time_one_is_mended() {
-    let rows: [(Mail, u32, &[u32], &[u32]); 7] = [
+    let rows: [(Mail, u32, &[u32], &[u32]); 9] = [
         (Mail::Clkc, 0, &[1, 2, 4, 5, 6, 17], &[2, 4, 5, 6, 17]),
         (Mail::Klod, 0, &[1, 2, 4, 5, 6, 12, 13, 17, 18], &[2, 4, 5, 6, 11, 12, 13, 17, 18]),
         (Mail::Kunl, 0, &[1, 2, 4, 5, 6, 14, 17, 18], &[2, 4, 5, 6, 14, 17, 18]),
@@ -53,6 +55,8 @@ fn mailbox_refuses_with_the_first_number_each_time_one_is_mended() {
         (Mail::Fers, 1, &[1, 2, 4, 5, 6, 17], &[2, 4, 5, 6, 8, 17]),
         (Mail::Fers, 2, &[1, 2, 4, 5, 6, 17], &[2, 4, 5, 6, 7, 17]),
         (Mail::Fsta, 0, &[1, 2, 4, 5, 6], &[2, 4, 5, 6]),
+        (Mail::Ehdl, 0, &[1, 2, 4, 5, 6, 17], &[2, 4, 5, 6, 17]),
+        (Mail::Rhpk, 0, &[1, 2, 4, 5, 6, 17, 20, 21], &[2, 4, 5, 6, 17, 20, 21]),
     ];
     for (command, partition, with_bad_map, all) in rows {
         check(&worst(1), &Mailbox(request(1, command, partition)), with_bad_map);
@@ -63,9 +67,11 @@ fn mailbox_refuses_with_the_first_number_each_time_one_is_mended() {
     let mut one_empty = worst(12);
     one_empty.cache.places[15] = Place::Empty;
     check(&one_empty, &Mailbox(request(12, Mail::Klod, 0)), &[12, 17, 18]);
-    let mut names_none = request(6, Mail::Fers, 0);
-    names_none.bytes.pop();
-    check(&worst(7), &Mailbox(names_none), &[4, 6, 17]);
+    for (command, left) in [(Mail::Fers, &[4, 6, 17][..]), (Mail::Rhpk, &[4, 6, 17, 21][..])] {
+        let mut names_none = request(6, command, 0);
+        names_none.bytes.pop();
+        check(&worst(7), &Mailbox(names_none), left);
+    }
 }
 
 /// Case 8: "FERS 1: refusal 8. FERS 2: refusal 7."
@@ -103,8 +109,9 @@ fn direct_commands_and_erasures_are_refused_with_the_lowest_number() {
     check(&worst(3), &Call::Erase(cut(0, 0, 1)), &[10]);
 }
 
-/// "cells or marks not C long; for the mailbox also block not 128 or response
-/// buffer under 20 bytes"
+/// "cells or marks not C long; for the mailbox also block not 128 or response buffer under 20
+/// bytes"; P6: "The smallest response buffer becomes 40 bytes, and a table count outside 1 to 3 is
+/// refused (both 2)."
 #[test]
 fn every_length_is_refused_with_2_unless_it_is_right() {
     let fsta = Mailbox(request(7, Mail::Fsta, 0));
@@ -117,22 +124,27 @@ fn every_length_is_refused_with_2_unless_it_is_right() {
         |lent| lent.drive.marks.push(0),
         |lent| (lent.drive.cells, lent.drive.marks) = (vec![0; 13], vec![0; 13]),
     ];
-    let of_buffers: [fn(&mut Lent); 4] = [
+    let of_mailbox: [fn(&mut Lent); 9] = [
         |lent| lent.block.truncate(127),
         |lent| lent.block.push(0),
         |lent| lent.block.clear(),
-        |lent| lent.response.truncate(19),
+        |lent| lent.response.truncate(36),
+        |lent| lent.response.truncate(39),
+        |lent| lent.table.count = 0,
+        |lent| lent.table.count = 4,
+        |lent| lent.table.count = 0x1_0000_0001,
+        |lent| lent.table.count = u64::MAX,
     ];
     // How many of the calls are refused.
     let rows = of_drive.map(|damage| (4, damage)).into_iter();
-    for (refused, damage) in rows.chain(of_buffers.map(|damage| (1, damage))) {
+    for (refused, damage) in rows.chain(of_mailbox.map(|damage| (1, damage))) {
         let mut lent = small(&[], &[]);
         damage(&mut lent);
         calls[..refused].iter().for_each(|call| check(&lent, call, &[2]));
         calls[refused..].iter().for_each(|call| check(&lent, call, &[]));
     }
     let mut lent = small(&[], &[]);
-    lent.response.truncate(20);
+    lent.response.truncate(40);
     calls.iter().for_each(|call| check(&lent, call, &[]));
     lent.drive.image.clear();
     calls.iter().for_each(|call| check(&lent, call, &[1]));

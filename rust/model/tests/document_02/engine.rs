@@ -5,10 +5,8 @@ use model::cache::restart;
 use model::direct::direct;
 use model::erasure::erase;
 use model::mailbox::mailbox;
-use model::{
-    engine, refusal, Answer, Awaited, Cache, Call, Command, Cut, Drive, EngineReply, Erase,
-};
-use model::{Erasure, KeyBlock, Lent, Mail, Model, Order, Place, Reply, Request, Values, PLACES};
+use model::{engine, refusal, Answer, Awaited, Cache, Call, Command, Cut, EngineReply, Erase};
+use model::{Erasure, Lent, Mail, Order, Place, Reply, Request, Values, PLACES};
 use Awaited::{Clear, Load, Unload};
 use EngineReply::{Done, Failed, TimedOut};
 use Place::{Empty, Held, Unsure, Waiting};
@@ -23,11 +21,9 @@ fn cache(lowest: &[Place], awaited: Option<Awaited>) -> Cache {
     Cache { places, awaited }
 }
 
-/// The small drive with that cache.
+/// The small drive with that cache, and a table of one handle, which is 0.
 fn small(lowest: &[Place], awaited: Option<Awaited>) -> Lent {
-    let (block, response) = (vec![0xB1; 128], vec![0xA5; 20]);
-    let cache = cache(lowest, awaited);
-    Lent { drive: Drive::small(), cache, block, response, ..Lent::default() }
+    Lent { cache: cache(lowest, awaited), ..super::small(super::table(&[[0, 1]], 0)) }
 }
 
 fn request(command: Mail, tag: u64, partition: u32) -> Request {
@@ -53,15 +49,9 @@ fn not_done(before: &Lent, left: Cache) {
     NOT_DONE.into_iter().for_each(|reply| replied(before, reply, left.clone()));
 }
 
-/// Exactly these refusals apply to the command, in this order; the first is given, and nothing
-/// changes.
+/// Exactly these refusals apply to the command.
 fn refused(before: &Lent, (command, tag, partition): (Mail, u64, u32), expected: &[u32]) {
-    let call = Call::Mailbox(request(command, tag, partition));
-    assert_eq!(refusal::numbers(&call.applying(before)), expected, "{call}");
-    let mut after = before.clone();
-    let said = Model.answer(&mut after, &call);
-    assert_eq!(said.refusal(), expected.first().copied(), "{call}");
-    assert!(expected.is_empty() || after == *before, "{call}");
+    super::refused(before, &Call::Mailbox(request(command, tag, partition)), expected);
 }
 
 /// "A cache place is empty, waiting, held or unsure": as C is told it, and past the last place.
@@ -165,18 +155,19 @@ fn p5_waiting_and_unsure_places_count_as_held() {
 /// while a place is unsure", in this order, "after 14 and before 15".
 #[test]
 fn p5_17_and_18_stand_after_14_and_before_15() {
-    let all = |before: &Lent, expected: [&[u32]; 5]| {
-        let tags = [0, 9, 8, 0, 0];
+    let all = |before: &Lent, expected: [&[u32]; 7]| {
+        let tags = [0, 9, 8, 0, 0, 0, 0];
         for ((command, tag), expected) in Mail::ALL.into_iter().zip(tags).zip(expected) {
             refused(before, (command, tag, 0), expected);
         }
     };
-    // CLKC, KLOD of another tag, KUNL, FERS of the slot, FSTA.
-    all(&small(&[Held(8)], None), [&[], &[], &[], &[10], &[]]);
-    all(&small(&[Held(8)], Some(Clear)), [&[17], &[17], &[17], &[10, 17], &[]]);
-    all(&small(&[Held(8), Waiting(7)], None), [&[17], &[17], &[17], &[10, 17], &[]]);
-    all(&small(&[Unsure(8)], None), [&[], &[18], &[18], &[10], &[]]);
-    let both: [&[u32]; 5] = [&[17], &[17, 18], &[17, 18], &[10, 17], &[]];
+    // CLKC, KLOD of another tag, KUNL, FERS of the slot, FSTA, and P6's EHDL and RHPK.
+    all(&small(&[Held(8)], None), [&[], &[], &[], &[10], &[], &[], &[]]);
+    let waits: [&[u32]; 7] = [&[17], &[17], &[17], &[10, 17], &[], &[17], &[17]];
+    all(&small(&[Held(8)], Some(Clear)), waits);
+    all(&small(&[Held(8), Waiting(7)], None), waits);
+    all(&small(&[Unsure(8)], None), [&[], &[18], &[18], &[10], &[], &[], &[]]);
+    let both: [&[u32]; 7] = [&[17], &[17, 18], &[17, 18], &[10, 17], &[], &[17], &[17]];
     all(&small(&[Unsure(8)], Some(Load)), both);
     all(&small(&[Unsure(8), Waiting(7)], None), both);
     // No indicator fuse can be set.
