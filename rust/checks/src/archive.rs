@@ -34,6 +34,7 @@ extern "C" {
     fn sci_restart();
     fn sci_mailbox();
     fn sci_engine_reply();
+    fn sci_make_table();
 }
 
 type Function = unsafe extern "C" fn();
@@ -71,9 +72,9 @@ impl KeyBlock for Archive {
         let (function, words) = arguments(lent, &mut context, call);
         let large =
             matches!(call, Call::Partition(_) | Call::Why | Call::Erase(_) | Call::Mailbox(_));
-        // SAFETY: every pointer is that of a part of `lent`, of the context, of the request
-        // or of the text, which outlive the call and overlap nowhere; where the header asks
-        // for a count, it follows.
+        // SAFETY: every pointer is that of a part of `lent`, of the context, of the request,
+        // of the text or of the handles, which outlive the call and overlap nowhere; where the
+        // header asks for a count, it follows.
         let told = unsafe { self.call(function, words, large) };
         context::take_back(lent, &context);
         said(call, told)
@@ -105,8 +106,6 @@ fn lent_words(Drive { image, cells, marks }: &mut Drive, context: &mut Context) 
 fn arguments(lent: &mut Lent, context: &mut Context, call: &Call) -> (Function, Vec<u64>) {
     let drive = lent_words(&mut lent.drive, context);
     let Lent { response, block, output, .. } = lent;
-    // What stands above the 32 bits of a number is nobody's.
-    let low = |number: &u32| u64::from(*number) | 0xDEAD_BEEF << 32;
     let with = |words: &[u64], more: &[u64]| [words, more].concat();
     match call {
         Call::Partition(number) => (sci_partition, with(&drive[..2], &[low(number)])),
@@ -117,7 +116,7 @@ fn arguments(lent: &mut Lent, context: &mut Context, call: &Call) -> (Function, 
         Call::Why => (sci_why, drive[..6].to_vec()),
         Call::WriteMap(text) => {
             let output = [output.as_mut_ptr() as u64, output.len() as u64];
-            (sci_write_map, with(&[text.as_ptr() as u64, text.len() as u64], &output))
+            (sci_write_map, with(&run(text), &output))
         }
         Call::Place(number) => (sci_cache_place, with(&drive[6..], &[low(number)])),
         Call::Direct(Command::Read { cell }) => (sci_read, with(&drive, &[low(cell)])),
@@ -130,16 +129,28 @@ fn arguments(lent: &mut Lent, context: &mut Context, call: &Call) -> (Function, 
             (sci_erase_cut, with(&drive, &[low(partition), low(k), *mask]))
         }
         Call::Mailbox(Request { code, bytes }) => {
-            let request = [low(code), bytes.as_ptr() as u64, bytes.len() as u64];
             let response = [response.as_mut_ptr() as u64, response.len() as u64];
             let block = [block.as_mut_ptr() as u64, block.len() as u64];
-            (sci_mailbox, [&drive[..], &request, &response, &block].concat())
+            (sci_mailbox, [&drive[..], &[low(code)], &run(bytes), &response, &block].concat())
         }
         Call::EngineReply(reply) => {
             (sci_engine_reply, with(&drive[6..], &numbers(*reply).map(|number| low(&number))))
         }
+        Call::MakeTable { handles, algorithms } => {
+            (sci_make_table, [&drive[6..], &run(handles), &run(algorithms)].concat())
+        }
         Call::Restart => (sci_restart, drive[6..].to_vec()),
     }
+}
+
+/// A number as an argument: what stands above its 32 bits is nobody's.
+fn low(number: &u32) -> u64 {
+    u64::from(*number) | 0xDEAD_BEEF << 32
+}
+
+/// The pointer of what is only read, and its count.
+fn run<T>(numbers: &[T]) -> [u64; 2] {
+    [numbers.as_ptr() as u64, numbers.len() as u64]
 }
 
 /// The engine's reply and the vendor's number, which is looked at by nobody. A reply of any number
@@ -170,8 +181,8 @@ fn said(call: &Call, told: [u32; 8]) -> Said {
         (Call::States, [refusal, partitions, ..]) => Said::Listing([refusal, partitions]),
         (Call::Why, _) => Said::Reason(reason(told)),
         (Call::WriteMap(_), [refusal, bytes, ..]) => Said::Written([refusal, bytes]),
-        (Call::EngineReply(_), [0, ..]) => Said::Taken(Ok(())),
-        (Call::EngineReply(_), [number, ..]) => Said::Taken(Err(number)),
+        (Call::EngineReply(_), [number, ..]) => Said::Taken(unless_refused(number)),
+        (Call::MakeTable { .. }, [number, ..]) => Said::Made(unless_refused(number)),
         (Call::Restart, _) => Said::Nothing,
         (Call::Direct(_), [0, 0, low, high, ..]) => Said::Answer(Answer::Word(word(low, high))),
         (Call::Direct(_), [1, 0, 0, 0, ..]) => Said::Answer(Answer::Done),
@@ -191,6 +202,15 @@ fn said(call: &Call, told: [u32; 8]) -> Said {
         }
         (Call::Mailbox(_), [number, 0, 0, 0, 0, ..]) => Said::Reply(Reply::Refused(number)),
         _ => panic!("{call} is answered {told:X?}"),
+    }
+}
+
+/// What is answered by a refusal's number, or by 0, alone.
+fn unless_refused(number: u32) -> Result<(), u32> {
+    if number == 0 {
+        Ok(())
+    } else {
+        Err(number)
     }
 }
 

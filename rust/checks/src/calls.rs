@@ -2,16 +2,19 @@
 //! in sequences on one drive.
 
 pub mod commands;
+mod handles;
 mod met;
 mod outcomes;
 mod pairs;
 pub mod requests;
 mod scene;
 mod sights;
+pub mod tables;
 
 pub use met::{answered, answers, possible};
 pub use outcomes::{came, outcomes};
 
+use crate::context::table_words;
 use crate::tally::Tally;
 use met::Seen;
 use model::{Call, KeyBlock, Lent, Model, Said};
@@ -47,8 +50,9 @@ pub fn unlike_model(before: &Lent, call: &Call, block: Side) -> Option<String> {
 }
 
 /// The first thing in which what a key block answers or leaves is not the model's:
-/// the answer, the cells, the places of the cache, the awaited reply, the block, the response
-/// buffer, the two arrays of the states, the buffer for a map, or anything else that is lent.
+/// the answer, the cells, the places of the cache, the awaited reply, the table, the block, the
+/// response buffer, the two arrays of the states, the buffer for a map, or anything else that is
+/// lent.
 pub fn difference((said, expected): Side, (answered, found): Side) -> Option<String> {
     if said == answered && expected == found {
         return None;
@@ -60,12 +64,14 @@ pub fn difference((said, expected): Side, (answered, found): Side) -> Option<Str
             Some(format!("the awaited reply: the model has {model:?}, the key block has {block:?}"))
         }
     };
+    let tables = || [expected, found].map(|lent| table_words(&lent.table));
     let others = || format!("the model leaves {expected:X?}, the key block leaves {found:X?}");
     let first = (said != answered)
         .then(answers)
         .or_else(|| first("cell", &expected.drive.cells, &found.drive.cells))
         .or_else(|| first("place", &expected.cache.places, &found.cache.places))
         .or_else(awaited)
+        .or_else(|| first("table word", &tables()[0], &tables()[1]))
         .or_else(|| first("block byte", &expected.block, &found.block))
         .or_else(|| first("response byte", &expected.response, &found.response))
         .or_else(|| first("state", &expected.states, &found.states))

@@ -21,7 +21,7 @@ impl KeyBlock for Proved {
     }
 }
 
-/// The same with a context that the caller keeps, in place of the lent cache.
+/// The same with a context that the caller keeps, in place of the lent cache and table.
 #[inline]
 pub fn answer(lent: &mut Lent, context: &mut Context, call: &Call) -> Said {
     let Drive { image, cells, marks } = &mut lent.drive;
@@ -32,10 +32,7 @@ pub fn answer(lent: &mut Lent, context: &mut Context, call: &Call) -> Said {
             States::Listed(listing) => listed(lent, &listing),
         }),
         Call::Why => Said::Reason(reason_of(proved::why(image, cells, marks))),
-        Call::WriteMap(text) => Said::Written(match proved::write_map(text, &mut lent.output) {
-            Ok(bytes) => [0, bytes as u32],
-            Err(number) => [number, 0],
-        }),
+        Call::WriteMap(text) => Said::Written(written(proved::write_map(text, &mut lent.output))),
         Call::Place(number) => Said::Place(context::place(context.place(*number as usize)).told()),
         Call::Direct(command) => {
             Said::Answer(answer_of(proved::direct(image, cells, marks, context, given(*command))))
@@ -54,6 +51,9 @@ pub fn answer(lent: &mut Lent, context: &mut Context, call: &Call) -> Said {
             )))
         }
         Call::EngineReply(reply) => Said::Taken(proved::engine_reply(context, handed(*reply))),
+        Call::MakeTable { handles, algorithms } => {
+            Said::Made(proved::make_table(context, handles, algorithms))
+        }
         Call::Restart => {
             proved::restart(context);
             Said::Nothing
@@ -78,6 +78,13 @@ fn listed(lent: &mut Lent, listing: &proved::Listing) -> [u32; 2] {
         }
     }
     [0, listing.len()]
+}
+
+fn written(told: Result<usize, u32>) -> [u32; 2] {
+    match told {
+        Ok(bytes) => [0, bytes as u32],
+        Err(number) => [number, 0],
+    }
 }
 
 fn reason_of(reason: proved::Reason) -> Result<Reason, u32> {

@@ -12,8 +12,8 @@ use crate::{calls, context};
 use cases::Case;
 use model::{Call, Cut, Drive, Erase, KeyBlock, Lent, Request, Said};
 use sciambrunola::{
-    direct, engine_reply, erase, erase_cut, mailbox, partition, restart, states, why, write_map,
-    Command, Context,
+    direct, engine_reply, erase, erase_cut, mailbox, make_table, partition, restart, states, why,
+    write_map, Command, Context,
 };
 
 /// The bytes of stack that a call uses, or the most that some calls do.
@@ -99,6 +99,9 @@ fn through_wrapper(lent: &Lent, call: &Call) -> usize {
             let reply = proved::handed(*reply);
             measured(lent, |_, context| engine_reply(context, reply))
         }
+        Call::MakeTable { handles, algorithms } => {
+            measured(lent, |_, context| make_table(context, handles, algorithms))
+        }
         Call::Restart => measured(lent, |_, context| restart(context)),
     }
 }
@@ -128,7 +131,7 @@ fn of_mailbox(lent: &Lent, Request { code, bytes }: &Request) -> usize {
     })
 }
 
-/// The stack of a call that finds what is lent, and its cache as a context.
+/// The stack of a call that finds what is lent, its cache and its table as a context.
 fn measured<T>(lent: &Lent, call: impl Fn(&mut Lent, &mut Context) -> T) -> usize {
     let new = || (lent.clone(), context::of(lent), None);
     depth(new, |(lent, context, answer)| *answer = Some(call(lent, context)))

@@ -75,23 +75,25 @@ fn odd(random: &mut Random, words: Words) -> Words {
 }
 
 /// The words that a call leaves which finds odd ones: those that it does not concern stay, the
-/// others are the model's. A cut and a restart make all of them 0.
+/// others are the model's. A cut and a restart make all of the cache's 0.
 fn left(odd: Words, [before, after]: [Words; 2], said: Said) -> Words {
-    if matches!(said, Said::Nothing | Said::Erasure(Erasure::Cut { .. })) {
-        return [0; CONTEXT_WORDS];
-    }
+    let emptied = matches!(said, Said::Nothing | Said::Erasure(Erasure::Cut { .. }));
     let concerned = |i: usize| match i {
-        AWAITED => before[i] != after[i],
+        AWAITED.. => before[i] != after[i],
         _ => [i % PLACES, i % PLACES + PLACES].into_iter().any(|word| before[word] != after[word]),
     };
-    std::array::from_fn(|i| if concerned(i) { after[i] } else { odd[i] })
+    std::array::from_fn(|i| match concerned(i) {
+        _ if emptied && i <= AWAITED => 0,
+        true => after[i],
+        false => odd[i],
+    })
 }
 
 /// Makes a call on a context with odd words, and gives these, what it came to, and what it left.
 /// Where a reply is awaited by a number that the key block never writes, no order is known to be
 /// done: any reply counts as a failure.
 fn check(random: &mut Random, call: &Call, before: &Lent) -> (Words, String, Lent) {
-    let words = context::words(&before.cache);
+    let words = context::words(before);
     let odd = odd(random, words);
     let asked = match call {
         Call::EngineReply(_) if odd[AWAITED] > 3 => Call::EngineReply(EngineReply::Failed(0)),
@@ -101,9 +103,9 @@ fn check(random: &mut Random, call: &Call, before: &Lent) -> (Words, String, Len
     let said = Model.answer(&mut expected, &asked);
     let mut context = Context::from_words(odd);
     let answered = proved::answer(&mut found, &mut context, call);
-    let left = left(odd, [words, context::words(&expected.cache)], said);
+    let left = left(odd, [words, context::words(&expected)], said);
     assert_eq!(context, Context::from_words(left), "{call}: from {odd:X?}");
-    found.cache = expected.cache.clone();
+    (found.cache, found.table) = (expected.cache.clone(), expected.table.clone());
     assert_eq!(difference((said, &expected), (answered, &found)), None, "{call}: from {odd:X?}");
     (odd, calls::came(call, said), expected)
 }

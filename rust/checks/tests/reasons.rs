@@ -12,7 +12,7 @@ use checks::{drives, lent, maps, small};
 use model::Reason::{AllErased, Available, Blank, NoSlot, Torn};
 use model::{entry, why, Call, Cut, Drive, Image, KeyBlock, Lent, Mail, Reason, Request, Said};
 use model::{State, Values, HARDWARE, SECRET, SLOT_FLAGS, ZEROIZABLE};
-use sciambrunola::{flag, LEAST_RESPONSE, NO_SLOT};
+use sciambrunola::{flag, NO_SLOT};
 use std::ops::Range;
 
 const DRIVES: usize = 120_000;
@@ -151,7 +151,7 @@ impl Told {
             _ => None,
         };
         let slots = (0..partitions).filter_map(slot).collect();
-        let active = [3, 4].map(|field| small::response(&lent, LEAST_RESPONSE)[field]);
+        let active = [3, 4].map(|field| small::response(&lent, 20)[field]);
         Told { refusals: [listing.refusal(), reply.refusal()], slots, active }
     }
 }

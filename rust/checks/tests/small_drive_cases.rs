@@ -1,7 +1,7 @@
 //! Document 01, "The small drive", cases 1 to 10, of which document 02 changes 5 and 6 by P4 and 10
-//! by P5: what the program `small_drive` prints, which plays them on the proved key block. A line
-//! has the request's chksum, the answer, the fields of the response, and the slot as it stands
-//! after it.
+//! by P5, and then the messages of P6: what the program `small_drive` prints, which plays them on
+//! the proved key block. A line has the request's chksum, the answer, the fields of the response,
+//! and the slot as it stands after it.
 
 use checks::runner;
 use std::path::Path;
@@ -30,6 +30,15 @@ case 7, mark 00 on cell 0: FERS FFFFFED0, partition 0: ERASED, FFFFFFFF, ONES
 case 8, mark 00 on cell 0: FERS FFFFFECF, partition 1: refused 8; FRESH
 case 8, mark 00 on cell 0: FERS FFFFFECE, partition 2: refused 7; FRESH
 case 9, mark 00 on cell 0: CLKC FFFFFDF8, timeout 1000: 12 bytes, clear, timeout 1000 [0, 0, 0]; FRESH
+";
+
+/// P6, on a table of the handles 5, 9 and 7 with the algorithms 1, 2 and 2. The bytes of EHDL's
+/// code sum to 11D, those of RHPK's to 135.
+const TABLE: &str = "\
+table: EHDL FFFFFEE3, list: 40 bytes, no order [FFFFFFE3, 0, 0, 3, 5, 1, 9, 2, 7, 2]; FRESH
+table: RHPK FFFFFEC2, handle 9: 16 bytes, no order [FFFFFFF6, 0, 0, A]; FRESH
+table: RHPK FFFFFEC2, handle 9: refused 20; FRESH
+table: EHDL FFFFFEE3, list: 40 bytes, no order [FFFFFFE2, 0, 0, 3, 5, 1, A, 2, 7, 2]; FRESH
 ";
 
 /// What stands for the words in capitals: the slot as it was, what FERS answers where
@@ -64,10 +73,10 @@ fn case_10() -> String {
 }
 
 #[test]
-fn cases_1_to_10_are_the_documents() {
+fn cases_1_to_10_and_p6s_messages_are_the_documents() {
     let program = Path::new(env!("CARGO_BIN_EXE_small_drive"));
     let printed = runner::run(program, &[]);
     let fill = |text: String, (word, meaning): &(&str, &str)| text.replace(word, meaning);
-    let expected = WORDS.iter().fold([CASES, &case_10()].concat(), fill);
+    let expected = WORDS.iter().fold([CASES, &case_10(), TABLE].concat(), fill);
     assert_eq!(String::from_utf8_lossy(&printed), expected);
 }

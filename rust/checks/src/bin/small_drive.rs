@@ -1,5 +1,6 @@
-//! Document 01, "The small drive": its cases, played on the proved key block, with a line for each
-//! call: what it is asked and answers, the fields of the response, and the slot as it then stands.
+//! Document 01, "The small drive": its cases, and the messages of document 02's P6, played on the
+//! proved key block, with a line for each call: what it is asked and answers, the fields of the
+//! response, and the slot as it then stands.
 
 use checks::calls::commands::low_bits;
 use checks::proved::Proved;
@@ -10,7 +11,7 @@ use Ask::{CutAt, Done, Erase, Send};
 /// What is asked for.
 #[derive(Clone, Copy)]
 enum Ask {
-    /// A mailbox command with a partition, a timeout or a tag.
+    /// A mailbox command with a partition, a timeout, a tag or a handle.
     Send(Mail, u32),
     /// The engine's reply to the order of such a command.
     Done,
@@ -56,6 +57,10 @@ fn main() {
             println!("case 10: {}", line(&mut lent, Done));
         }
     }
+    // A handle is rotated, and is no handle any more.
+    for (command, handle) in [(Mail::Ehdl, 0), (Mail::Rhpk, 9), (Mail::Rhpk, 9), (Mail::Ehdl, 0)] {
+        println!("table: {}", line(&mut lent, Send(command, handle)));
+    }
 }
 
 /// Asks the key block, and tells all that followed.
@@ -87,6 +92,8 @@ fn mail(lent: &mut Lent, command: Mail, number: u32) -> (String, Said) {
         Mail::Clkc => (Values { timeout: number, ..values }, format!("timeout {number}")),
         Mail::Fers => (Values { partition: number, ..values }, format!("partition {number}")),
         Mail::Fsta => (values, "status".to_string()),
+        Mail::Ehdl => (values, "list".to_string()),
+        Mail::Rhpk => (Values { handle: number, ..values }, format!("handle {number}")),
         Mail::Klod | Mail::Kunl => (Values { tag, ..values }, format!("tag {number}")),
     };
     let request = Request::of(command, &values);

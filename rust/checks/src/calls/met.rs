@@ -2,7 +2,7 @@
 //! refusals that can apply to one call, each reply to each order, and the sights.
 
 use super::outcomes::{came, outcomes};
-use super::{pairs, sights};
+use super::{handles, pairs, sights};
 use crate::context::REPLIES;
 use crate::layout::Layout;
 use crate::tally::{self, Row};
@@ -33,6 +33,7 @@ pub fn possible() -> Vec<String> {
     let mut keys = outcomes();
     keys.extend(pairs::possible());
     keys.extend(tally::names(FORBIDDEN).into_iter().map(alone).chain(tally::names(sights::ALL)));
+    keys.extend(tally::names(handles::ALL));
     keys.extend(answers());
     keys
 }
@@ -99,6 +100,7 @@ impl<'a> Seen<'a> {
     /// The keys of all that is met.
     pub fn met(self) -> Vec<String> {
         let mut met = tally::that_hold(sights::ALL, |holds| holds(&self));
+        met.extend(tally::that_hold(handles::ALL, |holds| holds(&self)));
         for (at, first) in self.applying.iter().enumerate() {
             let later = self.applying[at + 1..].iter();
             met.extend(later.map(|later| pairs::key(first.number(), later.number())));

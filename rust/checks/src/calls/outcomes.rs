@@ -4,7 +4,7 @@ use model::{Answer, Call, Erasure, Order, Reason, Reply, Said};
 
 /// What each call can come to when it is carried out, and its refusals. The states
 /// come to any number of partitions.
-const OUTCOMES: [(&str, &[&str], &[u32]); 18] = [
+const OUTCOMES: [(&str, &[&str], &[u32]); 21] = [
     ("fields", &KINDS_AND_FLAGS, &[1, 7]),
     ("states", &[], &[1, 2]),
     ("why", &["available", "no slot", "all erased", "blank", "torn"], &[1, 2]),
@@ -17,11 +17,14 @@ const OUTCOMES: [(&str, &[&str], &[u32]); 18] = [
     ("cut erasure", &["cut", "erased"], &[1, 2, 7, 8, 10, 15]),
     ("restart", &["nothing"], &[]),
     ("engine reply", &["taken"], &[19]),
+    ("make table", &["made"], &[2]),
     ("CLKC", &["clear"], &[1, 2, 4, 5, 6, 17]),
     ("KLOD", &["load"], &[1, 2, 4, 5, 6, 11, 12, 13, 17, 18]),
     ("KUNL", &["unload"], &[1, 2, 4, 5, 6, 14, 17, 18]),
     ("FERS", &["none"], &[1, 2, 4, 5, 6, 7, 8, 10, 17, 15]),
     ("FSTA", &["none"], &[1, 2, 4, 5, 6]),
+    ("EHDL", &["none"], &[1, 2, 4, 5, 6, 17]),
+    ("RHPK", &["none"], &[1, 2, 4, 5, 6, 17, 20, 21]),
     ("other", &[], &[1, 2, 3]),
 ];
 
@@ -70,6 +73,7 @@ fn outcome(said: Said) -> String {
         Said::Reply(Reply::Accepted { order: Order::Unload { .. }, .. }) => "unload",
         Said::Reply(_) => "none",
         Said::Taken(_) => "taken",
+        Said::Made(_) => "made",
         Said::Nothing => "nothing",
     }
     .to_string()

@@ -8,10 +8,16 @@ use model::{Mail, Request, Values};
 /// What is wrong with a request: its code, its length, its chksum, its reserved.
 type Wrong = [bool; 4];
 
-/// A request of this command with a tag of these and this partition, one in
+/// A request of this command with a tag of these, this partition and this handle, one in
 /// four with something wrong.
-pub fn generated(random: &mut Random, command: Mail, tags: &[u64], partition: u32) -> Request {
-    let values = Values { partition, ..good_values(random, tags) };
+pub fn generated(
+    random: &mut Random,
+    command: Mail,
+    tags: &[u64],
+    partition: u32,
+    handle: u32,
+) -> Request {
+    let values = Values { partition, handle, ..good_values(random, tags) };
     let spoiled = random.one_in(4);
     let wrong = [(); 4].map(|()| spoiled && random.one_in(3));
     request(random, command, values, wrong)
@@ -86,7 +92,7 @@ fn put_chksum(random: &mut Random, request: &mut Request, unspoiled: &Request, w
 
 /// A block and a response buffer of right lengths, which hold anything.
 pub fn buffers(random: &mut Random) -> (Vec<u8>, Vec<u8>) {
-    let length = random.pick(&[20, 20, 20, 21, 24, 40]);
+    let length = random.pick(&[40, 40, 40, 41, 44, 60]);
     (random.bytes(BLOCK_BYTES), random.bytes(length))
 }
 
@@ -94,6 +100,6 @@ pub fn buffers(random: &mut Random) -> (Vec<u8>, Vec<u8>) {
 pub fn damage_buffers(random: &mut Random, block: &mut Vec<u8>, response: &mut Vec<u8>) {
     match random.below(2) {
         0 => block.resize(random.pick(&[0, 64, 127, 129, 256]), 0xBB),
-        _ => response.resize(random.pick(&[0, 8, 12, 16, 19]), 0xAA),
+        _ => response.resize(random.pick(&[0, 12, 20, 24, 32, 36, 39]), 0xAA),
     }
 }

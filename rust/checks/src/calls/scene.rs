@@ -1,7 +1,7 @@
-//! What a sequence of calls plays on: a drive, a cache and a choice of tags,
-//! with the calls that come one after the other.
+//! What a sequence of calls plays on: a drive, a cache, a table and a choice of tags and
+//! handles, with the calls that come one after the other.
 
-use super::{commands, requests};
+use super::{commands, requests, tables};
 use crate::context::REPLIES;
 use crate::random::Random;
 use crate::texts::{self, Text};
@@ -15,33 +15,36 @@ const SEED: u64 = 0x5EED_0C11_0016_0128;
 const TAGS: usize = 24;
 
 /// How often each call is made, in parts of the sum: fields, states, why, place, map; READ,
-/// WRITE, ZEROIZE; erasure, cut erasure, restart, engine reply; then the mailbox commands in the
-/// order of the document's table, CLKC, KLOD, KUNL, FERS, FSTA.
-type Mood = [usize; 17];
+/// WRITE, ZEROIZE; erasure, cut erasure, restart, engine reply, table; then the mailbox commands
+/// in the order of the document's table, CLKC, KLOD, KUNL, FERS, FSTA, and EHDL, RHPK.
+type Mood = [usize; 20];
 
 const MOODS: [Mood; 4] = [
     // Many loads, which fill the cache.
-    [4, 4, 3, 2, 2, 4, 8, 6, 1, 1, 1, 2, 1, 40, 12, 1, 5],
+    [4, 4, 3, 2, 2, 4, 8, 6, 1, 1, 1, 2, 1, 1, 40, 12, 3, 5, 2, 5],
     // Many burns of single words.
-    [4, 4, 3, 2, 2, 12, 40, 16, 1, 1, 1, 2, 4, 4, 4, 1, 8],
+    [4, 4, 3, 2, 2, 12, 40, 16, 1, 1, 1, 2, 1, 4, 4, 4, 1, 8, 2, 5],
     // Some of each.
-    [4, 4, 3, 2, 2, 10, 20, 12, 2, 2, 2, 2, 2, 20, 12, 2, 8],
+    [4, 4, 3, 2, 2, 10, 20, 12, 2, 2, 2, 2, 1, 2, 20, 12, 2, 8, 2, 5],
     // Many erasures, with loads between them.
-    [4, 4, 3, 2, 2, 4, 8, 6, 10, 30, 6, 2, 1, 10, 4, 20, 5],
+    [4, 4, 3, 2, 2, 4, 8, 6, 10, 30, 6, 2, 1, 1, 10, 4, 20, 5, 2, 5],
 ];
 
-/// The places of WRITE, of the erasure, of the engine's reply and of CLKC, the first mailbox
-/// command, among them.
+/// The places of WRITE, of the erasure, of the engine's reply, of the table and of CLKC, the first
+/// mailbox command, among them.
 const WRITE: usize = 6;
 const ERASURE: usize = 8;
 const REPLY: usize = 11;
-const CLKC: usize = 12;
+const MAKE_TABLE: usize = 12;
+const CLKC: usize = 13;
 
 /// A sequence of calls, made again by its number alone.
 pub struct Scene {
     random: Random,
     mood: Mood,
     tags: Vec<u64>,
+    /// Numbers of handles.
+    numbers: Vec<u32>,
     /// What the last call left; the next one gets other buffers and arrays.
     lent: Lent,
     /// How many calls the sequence has.
@@ -55,10 +58,13 @@ impl Scene {
         let mood = random.pick(&MOODS);
         let tags = tags(&mut random);
         let cache = cache(&mut random, &tags);
+        let numbers = tables::numbers(&mut random);
+        let table = tables::any(&mut random, &numbers);
         let mut drive = drive(&mut random);
         change(&mut random, &mut drive);
         let calls = random.between(60, 120);
-        Scene { random, mood, tags, lent: Lent { drive, cache, ..Lent::default() }, calls }
+        let lent = Lent { drive, cache, table, ..Lent::default() };
+        Scene { random, mood, tags, numbers, lent, calls }
     }
 
     /// The drive as it stands, with nothing damaged for a call.
@@ -85,19 +91,23 @@ impl Scene {
     }
 
     /// Goes on from what a call left, unless the call was lent something damaged, which may have
-    /// had a good map of its own. Damaged marks are the call's alone.
+    /// had a good map of its own. Damaged marks, and a table that is none, are the call's alone.
     pub fn go_on(&mut self, mut after: Lent) {
         let drive = &mut self.lent.drive;
         let same_lengths = after.drive.cells.len() == drive.cells.len();
         if same_lengths && after.drive.image == drive.image {
             after.drive.marks = std::mem::take(&mut drive.marks);
+            if after.table.listed().is_none() {
+                after.table = std::mem::take(&mut self.lent.table);
+            }
             self.lent = after;
         }
     }
 
     /// Which call is made. A third of those while a reply is awaited are the reply, and a sixth of
     /// those while a place is unsure are CLKC, so that sequences get on. A sixth of those while a
-    /// reply is awaited with every place empty are WRITE or an erasure, which few would be.
+    /// reply is awaited with every place empty are WRITE or an erasure, which few would be. A sixth
+    /// of those without a table make one.
     fn choice(&mut self) -> usize {
         let cache = &self.lent.cache;
         match self.random.below(6) {
@@ -106,6 +116,7 @@ impl Scene {
             3 if cache.awaited.is_some() && !cache.any_held() => {
                 self.random.pick(&[WRITE, WRITE, ERASURE])
             }
+            4 if self.lent.table.listed().is_none() => MAKE_TABLE,
             _ => self.random.weighted(&self.mood),
         }
     }
@@ -132,13 +143,15 @@ impl Scene {
             }
             10 => Call::Restart,
             REPLY => Call::EngineReply(reply(random)),
+            MAKE_TABLE => tables::making(random, &self.numbers),
             mailbox => {
                 let partition = commands::partition(random, drive);
                 let command = Mail::ALL[mailbox - CLKC];
                 let cached = self.lent.cache.tags();
                 let unloads = command == Mail::Kunl && random.one_in(2) && !cached.is_empty();
                 let tags = if unloads { &cached } else { &self.tags };
-                Call::Mailbox(requests::generated(random, command, tags, partition))
+                let handle = tables::handle(random, &self.lent.table, &self.numbers);
+                Call::Mailbox(requests::generated(random, command, tags, partition, handle))
             }
         }
     }
@@ -240,9 +253,10 @@ fn drive(random: &mut Random) -> Drive {
 
 /// Damages one thing that is lent.
 fn damage(random: &mut Random, lent: &mut Lent) {
-    match random.below(4) {
+    match random.below(5) {
         0 => maps::damage_bytes(random, &mut lent.drive.image),
         1 | 2 => requests::damage_buffers(random, &mut lent.block, &mut lent.response),
+        3 => tables::damage(random, &mut lent.table),
         _ => drives::damage_lengths(random, &mut lent.drive),
     }
 }

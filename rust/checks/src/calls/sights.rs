@@ -1,11 +1,12 @@
-//! Sights: what is to be met in generated calls though no outcome names it.
+//! Sights: what is to be met in generated calls though no outcome names it. Those of tables stand
+//! with `handles`.
 
 use super::met::Seen;
 use crate::layout::Layout;
 use crate::tally::Row;
 use model::{Call, Command, Place, Said};
 
-type Sight = fn(&Seen) -> bool;
+pub type Sight = fn(&Seen) -> bool;
 
 pub const ALL: &[Row<Sight>] = &[
     ("secret word shown at B", |s| s.came == "ZEROIZE word" && s.word(true, 0)),

@@ -9,8 +9,9 @@ use crate::small::{self, INDICATOR_STUCK, MAP_TEXT, SLOT};
 use crate::{lent, texts};
 use model::Command::{Read, Write, Zeroize};
 use model::EngineReply::{self, Done, TimedOut};
-use model::Mail::{Clkc, Fsta, Klod, Kunl};
-use model::{Call, Cut, Erase, KeyBlock, Lent, Mail, Model, Request, Values, HARDWARE, SOFTWARE};
+use model::Mail::{Clkc, Ehdl, Fsta, Klod, Kunl, Rhpk};
+use model::{Call, Cut, Erase, KeyBlock, Lent, Mail, Model, Request, Table, Values};
+use model::{HARDWARE, SOFTWARE};
 use sciambrunola::LONGEST_IMAGE;
 use std::ops::RangeInclusive;
 
@@ -39,8 +40,8 @@ const INDICATOR_UNSET: &[(usize, u32)] = &[(2, u32::MAX), (1, u32::MAX)];
 
 /// All of them, in the order of the table's rows.
 pub fn all() -> Vec<Case> {
-    let mailbox = [clkc(), klod(), kunl(), by_fers(), fsta(), unknown()];
-    let others = [reading(), direct(), erasures(), restarts(), replies()];
+    let mailbox = [clkc(), klod(), kunl(), by_fers(), fsta(), ehdl(), rhpk(), unknown()];
+    let others = [reading(), direct(), erasures(), restarts(), replies(), tables()];
     others.into_iter().chain(mailbox).flatten().collect()
 }
 
@@ -154,6 +155,20 @@ fn replies() -> Vec<Case> {
     [small([1]), large(ALL)].into_iter().flat_map(taken).chain(refused).collect()
 }
 
+/// Of three handles, of which the last two are compared last.
+fn tables() -> Vec<Case> {
+    let make = |comes_to, lent: Lent, handles: [u32; 3]| {
+        let (handles, algorithms) = (handles.to_vec(), vec![1, 2, 3]);
+        case(comes_to, lent, Call::MakeTable { handles, algorithms })
+    };
+    let none = || Lent { table: Table::default(), ..large(ALL) };
+    vec![
+        make("make table made", none(), [1, 2, 3]),
+        make("make table refused 2", none(), [1, 2, 2]),
+        make("make table refused 2", large(ALL), [1, 2, 3]),
+    ]
+}
+
 /// A mailbox call.
 fn mail(comes_to: &'static str, lent: Lent, request: Request) -> Case {
     case(comes_to, lent, Call::Mailbox(request))
@@ -227,6 +242,32 @@ fn fsta() -> Vec<Case> {
         mail("FSTA none", waiting(large(ALL)), plain(Fsta, 0)),
         mail("FSTA refused 6", small([1]), plain(Fsta, 1)),
         mail("FSTA refused 6", large(ALL), plain(Fsta, 1)),
+    ]
+}
+
+fn ehdl() -> Vec<Case> {
+    vec![
+        mail("EHDL none", small([1]), plain(Ehdl, 0)),
+        mail("EHDL none", large(ALL), plain(Ehdl, 0)),
+        mail("EHDL refused 6", small([1]), plain(Ehdl, 1)),
+        mail("EHDL refused 6", large(ALL), plain(Ehdl, 1)),
+        mail("EHDL refused 17", waiting(large(ALL)), plain(Ehdl, 0)),
+    ]
+}
+
+/// Of the handle in the last place, and of one that is in none.
+fn rhpk() -> Vec<Case> {
+    let rotate = |handle| Request::of(Rhpk, &Values { handle, ..Values::default() });
+    let last = lent::table().handles[2].number;
+    let mut used_up = large(ALL);
+    used_up.table.greatest = u32::MAX.into();
+    vec![
+        mail("RHPK none", small([1]), rotate(last)),
+        mail("RHPK none", large(ALL), rotate(last)),
+        mail("RHPK refused 20", small([1]), rotate(0)),
+        mail("RHPK refused 20", large(ALL), rotate(0)),
+        mail("RHPK refused 21", used_up, rotate(last)),
+        mail("RHPK refused 17", waiting(large(ALL)), rotate(last)),
     ]
 }
 
