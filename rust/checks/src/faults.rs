@@ -1,26 +1,29 @@
 //! Copies of the model with one fault each, for the tests of the tests: one for each thing that a
 //! comparison looks at, for each clause of a history one that breaks it, wrong states, reasons and
-//! maps, and wrong places, orders and replies. That the proofs refuse faults of the key block
-//! itself is shown by the edits in `crates/*/must-fail`.
+//! maps, wrong places, orders and replies, and wrong tables and handles. That the proofs refuse
+//! faults of the key block itself is shown by the edits in `crates/*/must-fail`.
 
 mod engine;
+mod handles;
+mod made;
 mod maps;
 
-pub use engine::of_engine;
+pub use made::{of_engine, of_handles};
 pub use maps::OF_MAPS;
 
 use crate::layout::Layout;
 use model::Reason::{AllErased, Available, Blank, NoSlot, Torn};
 use model::{Answer, Awaited, Call, Command, Cut, Drive, Erase, Erasure, KeyBlock, Lent, Model};
-use model::{Place, Reason, Reply, Said, State};
+use model::{Place, Reason, Reply, Said, State, Table};
 use std::ops::Range;
 
 /// Faults by how their difference from the model is told.
-pub const OF_COMPARISONS: [&str; 18] = [
+pub const OF_COMPARISONS: [&str; 20] = [
     "the answer: the model says Answer(",
     "the answer: the model says Erasure(",
     "the answer: the model says Fields(",
     "the answer: the model says Listing(",
+    "the answer: the model says Made(",
     "the answer: the model says Place(",
     "the answer: the model says Reason(",
     "the answer: the model says Reply(",
@@ -29,6 +32,7 @@ pub const OF_COMPARISONS: [&str; 18] = [
     "cell 0: ",
     "place 15: ",
     "the awaited reply: ",
+    "table word 4: ",
     "block byte 127: ",
     "response byte 7: ",
     "state 0: ",
@@ -38,7 +42,7 @@ pub const OF_COMPARISONS: [&str; 18] = [
 ];
 
 /// Faults that break demand 3, or document 02's P4 on erasures.
-pub const OF_HISTORIES: [&str; 20] = [
+pub const OF_HISTORIES: [&str; 21] = [
     "numbers in 8 bits",
     "numbers in 16 bits",
     "a cut at the indicator burns data",
@@ -56,6 +60,7 @@ pub const OF_HISTORIES: [&str; 20] = [
     "a restart burns fuses",
     "a key held after an erasure",
     "a reply awaited after an erasure",
+    "the table emptied by a cut",
     "15 for a short indicator",
     "no 15 for an indicator without a set fuse",
     "an erasure tells its last short pair",
@@ -80,8 +85,8 @@ impl KeyBlock for Faulty {
     fn answer(&mut self, lent: &mut Lent, call: &Call) -> Said {
         let before = lent.clone();
         let said = Model.answer(lent, &self.asked(call));
-        let made = engine::Made { call, before: &before, said, after: lent };
-        if let Some(said) = engine::faulty(self.0, made) {
+        let made = made::Made { call, before: &before, said, after: lent };
+        if let Some(said) = made::faulty(self.0, made) {
             return said;
         }
         let faulty = match (call, said) {
@@ -143,6 +148,7 @@ impl Faulty {
         match (self.0, right) {
             ("a cut at the indicator burns data", Cut { burns: 1 }) => cells[start] |= 2,
             ("a cut does nothing", Cut { .. }) => cells.clone_from(before),
+            ("the table emptied by a cut", Cut { .. }) => lent.table = Table::default(),
             ("k burns counted in a cut at k", Cut { burns }) => {
                 return Some(Cut { burns: burns - 1 })
             }
@@ -251,12 +257,7 @@ impl Faulty {
                 return Some(Said::Place([0, 0]));
             }
             ("a state by counted as zeroized, not by marked", Said::Listing([0, _])) => {
-                let partitions = Layout::all(&lent.drive);
-                for (state, partition) in lent.states.iter_mut().zip(partitions) {
-                    if partition.weakly_marked(&lent.drive.cells) {
-                        *state = State::Programmed as u32;
-                    }
-                }
+                unmark(lent);
             }
             ("the answer: the model says Taken(", Said::Taken(Err(_))) => {
                 return Some(Said::Taken(Ok(())));
@@ -264,6 +265,10 @@ impl Faulty {
             ("the awaited reply: ", Said::Taken(Ok(()))) => {
                 lent.cache.awaited = Some(Awaited::Load)
             }
+            ("the answer: the model says Made(", Said::Made(Err(_))) => {
+                return Some(Said::Made(Ok(())));
+            }
+            ("table word 4: ", Said::Made(Ok(()))) => lent.table.greatest += 1,
             ("state 0: ", Said::Listing([1 | 2, _])) => lent.states[0] ^= 1,
             ("short pairs 15: ", Said::Listing([0, 1..=15])) => lent.short_pairs[15] ^= 1,
             ("the model leaves ", Said::Nothing) => set(&mut lent.drive.marks),
@@ -271,6 +276,16 @@ impl Faulty {
             _ => {}
         }
         None
+    }
+}
+
+/// Makes the weakly marked partitions programmed.
+fn unmark(lent: &mut Lent) {
+    let partitions = Layout::all(&lent.drive);
+    for (state, partition) in lent.states.iter_mut().zip(partitions) {
+        if partition.weakly_marked(&lent.drive.cells) {
+            *state = State::Programmed as u32;
+        }
     }
 }
 

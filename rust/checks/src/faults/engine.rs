@@ -1,23 +1,13 @@
 //! Faults of document 02's P5.
 
+use super::made::{Fault, Made};
 use crate::tally::Row;
 use model::Awaited::{self, Clear, Load, Unload};
 use model::EngineReply::{self, Done, Failed, TimedOut};
 use model::Place::{self, Empty, Held, Unsure};
-use model::{Cache, Call, Erasure, KeyBlock, Lent, Model, Order, Reply, Said};
+use model::{Cache, Call, Erasure, KeyBlock, Model, Order, Reply, Said};
 
-/// A call as the model made it; a fault changes what it said or left.
-pub(super) struct Made<'a> {
-    pub call: &'a Call,
-    pub before: &'a Lent,
-    pub said: Said,
-    pub after: &'a mut Lent,
-}
-
-/// When a fault shows, and what it changes then; gives whether it showed.
-type Fault = fn(&mut Made) -> bool;
-
-const ALL: [Row<Fault>; 35] = [
+pub(super) const ALL: [Row<Fault>; 35] = [
     ("a load's place held before done", |m| m.orders(Load) && m.waiting(Held)),
     ("an unload's place empty before done", |m| m.orders(Unload) && m.waiting(|_| Empty)),
     ("a clear that empties at once", |m| m.orders(Clear) && m.waiting(|_| Empty)),
@@ -73,28 +63,8 @@ const ALL: [Row<Fault>; 35] = [
     ("a restart that keeps it", |m| m.is("restart") && m.awaits(m.before.cache.awaited)),
 ];
 
-/// The names of these faults.
-pub fn of_engine() -> impl Iterator<Item = &'static str> {
-    ALL.into_iter().map(|(name, _)| name)
-}
-
-/// What is said with the fault of this name, if there is one and it shows.
-pub(super) fn faulty(name: &str, mut made: Made) -> Option<Said> {
-    let (_, shows) = ALL.into_iter().find(|(fault, _)| *fault == name)?;
-    shows(&mut made).then_some(made.said)
-}
-
 /// When a fault shows.
 impl Made<'_> {
-    fn is(&self, name: &str) -> bool {
-        self.call.name() == name
-    }
-
-    /// Whether a mailbox command was carried out.
-    fn carries_out(&self, name: &str) -> bool {
-        self.is(name) && self.said.refusal().is_none()
-    }
-
     /// Whether this order was given.
     fn orders(&self, order: Awaited) -> bool {
         let given = match self.said {
@@ -118,14 +88,6 @@ impl Made<'_> {
     /// Whether an erasure by the library's call ran to its end.
     fn ends(&self) -> bool {
         matches!(self.said, Said::Erasure(Erasure::Erased { .. }))
-    }
-
-    fn refused(&self, number: u32) -> bool {
-        self.said.refusal() == Some(number)
-    }
-
-    fn applies(&self, number: u32) -> bool {
-        self.call.applying(self.before).iter().any(|refusal| refusal.number() == number)
     }
 }
 
@@ -163,7 +125,7 @@ impl Made<'_> {
     }
 
     /// The call is made on another cache than it is. What it leaves alone is what it was.
-    fn seeing(&mut self, change: impl Fn(&mut Cache)) -> bool {
+    pub(super) fn seeing(&mut self, change: impl Fn(&mut Cache)) -> bool {
         let mut seen = self.before.clone();
         change(&mut seen.cache);
         self.after.clone_from(&seen);
@@ -189,15 +151,5 @@ impl Made<'_> {
             }
         };
         !self.is("place") && self.seeing(see)
-    }
-
-    /// The call is refused with this number.
-    fn refuse(&mut self, number: u32) -> bool {
-        self.after.clone_from(self.before);
-        self.said = match self.call {
-            Call::Erase(_) => Said::Erasure(Erasure::Refused { number, burns: 0 }),
-            _ => Said::Reply(Reply::Refused(number)),
-        };
-        true
     }
 }

@@ -1,0 +1,61 @@
+//! A call as the model made it, and what faults of document 02's P5 and P6 ask of it or change.
+
+use super::{engine, handles};
+use model::{Call, Erasure, Lent, Reply, Said};
+
+/// A call as the model made it; a fault changes what it said or left.
+pub(super) struct Made<'a> {
+    pub call: &'a Call,
+    pub before: &'a Lent,
+    pub said: Said,
+    pub after: &'a mut Lent,
+}
+
+/// When a fault shows, and what it changes then; gives whether it showed.
+pub(super) type Fault = fn(&mut Made) -> bool;
+
+/// The names of P5's faults.
+pub fn of_engine() -> impl Iterator<Item = &'static str> {
+    engine::ALL.into_iter().map(|(name, _)| name)
+}
+
+/// The names of P6's faults.
+pub fn of_handles() -> impl Iterator<Item = &'static str> {
+    handles::ALL.into_iter().map(|(name, _)| name)
+}
+
+/// What is said with the fault of this name, if there is one and it shows.
+pub(super) fn faulty(name: &str, mut made: Made) -> Option<Said> {
+    let mut all = engine::ALL.into_iter().chain(handles::ALL);
+    let (_, shows) = all.find(|(fault, _)| *fault == name)?;
+    shows(&mut made).then_some(made.said)
+}
+
+impl Made<'_> {
+    pub fn is(&self, name: &str) -> bool {
+        self.call.name() == name
+    }
+
+    /// Whether a call of this name was carried out.
+    pub fn carries_out(&self, name: &str) -> bool {
+        self.is(name) && self.said.refusal().is_none()
+    }
+
+    pub fn refused(&self, number: u32) -> bool {
+        self.said.refusal() == Some(number)
+    }
+
+    pub fn applies(&self, number: u32) -> bool {
+        self.call.applying(self.before).iter().any(|refusal| refusal.number() == number)
+    }
+
+    /// The call is refused with this number.
+    pub fn refuse(&mut self, number: u32) -> bool {
+        self.after.clone_from(self.before);
+        self.said = match self.call {
+            Call::Erase(_) => Said::Erasure(Erasure::Refused { number, burns: 0 }),
+            _ => Said::Reply(Reply::Refused(number)),
+        };
+        true
+    }
+}
