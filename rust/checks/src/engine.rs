@@ -1,22 +1,23 @@
 //! Document 02, P5: a drive that goes on calling beside an engine which answers at once, late,
-//! never, twice or with failures, from a cache that begins empty. What holds after every list of
-//! such calls is checked on the values that a key block gives and leaves, by an account of its
-//! orders, and not by the model.
+//! never, twice or with failures, from a cache that begins empty; and P6: it lists and rotates
+//! handles, from a fresh table. What holds after every list of such calls is checked on the values
+//! that a key block gives and leaves, by an account of its orders and handles, and not by the
+//! model.
 
 mod account;
 mod clauses;
 
 pub use clauses::{broken, names, Step, BACK};
 
-use crate::calls::{answered, answers, commands};
+use crate::calls::{answered, answers, came, commands, tables};
 use crate::lent;
 use crate::random::Random;
 use crate::tally::Row;
 use account::Account;
 use model::EngineReply::{Done, Failed, TimedOut};
-use model::Mail::{Clkc, Fers, Fsta, Klod, Kunl};
+use model::Mail::{Clkc, Ehdl, Fers, Fsta, Klod, Kunl, Rhpk};
 use model::{entry, Cache, Call, Command, Drive, EngineReply, Erase, Image, KeyBlock, Lent, Mail};
-use model::{Request, Said, Values, HARDWARE, SLOT_FLAGS, SOFTWARE, ZEROIZABLE};
+use model::{Request, Said, Table, Values, HARDWARE, SLOT_FLAGS, SOFTWARE, ZEROIZABLE};
 use std::collections::BTreeSet;
 
 const SEED: u64 = 0x5EED_0005_0017_0019;
@@ -51,8 +52,9 @@ const OPEN: &str = "awaited to the end";
 const FULL: &str = "a full cache in the end";
 const FULL_UNSURE: &str = "a full cache in the end, some place unsure";
 
-/// Refusals that have to be met.
-const REFUSALS: [u32; 9] = [10, 11, 12, 13, 14, 15, 17, 18, 19];
+/// Refusals that have to be met, 2 for a table over a table, and what is asked of tables.
+const REFUSALS: [u32; 12] = [2, 10, 11, 12, 13, 14, 15, 17, 18, 19, 20, 21];
+const OF_TABLES: [&str; 2] = ["EHDL none", "RHPK none"];
 
 /// A reply on its way.
 struct Coming {
@@ -69,6 +71,8 @@ struct Player<'a, B> {
     lent: Lent,
     /// How many tags there are, from 0 on.
     tags: usize,
+    /// Numbers of handles.
+    numbers: Vec<u32>,
     account: Account,
     /// The manner of each order.
     manners: Vec<&'static str>,
@@ -84,10 +88,13 @@ pub fn play<B: KeyBlock>(
     mut see: impl FnMut(&Step),
 ) -> (BTreeSet<String>, bool) {
     let mut random = Random::numbered(SEED, number);
-    let lent = lent::of(drive(&mut random));
+    let lent = Lent { table: Table::default(), ..lent::of(drive(&mut random)) };
     let (tags, loads) = random.pick(&STARTS);
+    let numbers = tables::numbers(&mut random);
+    let (handles, algorithms) = tables::fresh(&mut random, &numbers);
     let (account, manners, coming, met) = (Account::default(), vec![], vec![], BTreeSet::new());
-    let mut player = Player { random, block, lent, tags, account, manners, coming, met };
+    let mut player = Player { random, block, lent, tags, numbers, account, manners, coming, met };
+    player.make(Call::MakeTable { handles, algorithms }, &mut see);
     (0..loads).for_each(|tag| player.order(mail(Klod, tag as u64, 0), Done, &mut see));
     for _ in 0..player.random.between(4, MOST_CALLS) {
         player.next(&mut see);
@@ -108,8 +115,8 @@ pub fn possible() -> Vec<String> {
         };
         fates.iter().map(move |fate| format!("{manner}: {fate}"))
     });
-    let ends = [FULL, FULL_UNSURE].map(str::to_string);
-    manners.chain(answers()).chain(REFUSALS.map(refused)).chain(ends).collect()
+    let others = [FULL, FULL_UNSURE].into_iter().chain(OF_TABLES).map(str::to_string);
+    manners.chain(answers()).chain(REFUSALS.map(refused)).chain(others).collect()
 }
 
 fn refused(number: u32) -> String {
@@ -142,7 +149,7 @@ impl<B: KeyBlock> Player<'_, B> {
     fn make(&mut self, call: Call, see: &mut impl FnMut(&Step)) -> Said {
         let (before, was) = (self.lent.clone(), self.account.clone());
         let said = self.block.answer(&mut self.lent, &call);
-        self.account.enter(&call, said);
+        self.account.enter(&call, said, &self.lent);
         see(&Step {
             call: &call,
             before: &before,
@@ -158,6 +165,7 @@ impl<B: KeyBlock> Player<'_, B> {
         }
         let refusal = said.refusal().filter(|number| REFUSALS.contains(number));
         self.met.extend(refusal.map(refused));
+        self.met.extend(Some(came(&call, said)).filter(|came| OF_TABLES.contains(&came.as_str())));
         match (was.open, self.account.open) {
             (Some(order), None) if !matches!(call, Call::EngineReply(_)) => {
                 self.meet(order, DROPPED)
@@ -205,18 +213,23 @@ impl<B: KeyBlock> Player<'_, B> {
 
     /// A call of the drive. Where it can, KUNL names a tag that some place has.
     fn call(&mut self) -> Call {
-        let (random, Lent { drive, cache, .. }) = (&mut self.random, &self.lent);
+        let (random, Lent { drive, cache, table, .. }) = (&mut self.random, &self.lent);
         let (tag, partition) = (random.below(self.tags) as u64, commands::partition(random, drive));
-        match random.weighted(&[4, 4, 12, 1, 1, 1, 1, 1, 1]) {
+        match random.weighted(&[4, 4, 12, 1, 1, 2, 1, 1, 1, 1, 1, 6]) {
             0 if cache.any_held() => mail(Kunl, random.pick(&cache.tags()), partition),
-            choice @ 0..=4 => mail([Kunl, Clkc, Klod, Fers, Fsta][choice], tag, partition),
-            5 => Call::Direct(Command::Zeroize { cell: commands::cell(random, drive) }),
-            6 => Call::Erase(Erase { partition, cut: None }),
-            7 => {
+            choice @ 0..=5 => mail([Kunl, Clkc, Klod, Fers, Fsta, Ehdl][choice], tag, partition),
+            6 => Call::Direct(Command::Zeroize { cell: commands::cell(random, drive) }),
+            7 => Call::Erase(Erase { partition, cut: None }),
+            8 => {
                 let cut = Some(commands::cut_of(random, drive, partition));
                 Call::Erase(Erase { partition, cut })
             }
-            _ => Call::Restart,
+            9 => Call::Restart,
+            10 => tables::making(random, &self.numbers),
+            _ => {
+                let handle = tables::handle(random, table, &self.numbers);
+                Call::Mailbox(Request::of(Rhpk, &Values { handle, ..Values::default() }))
+            }
         }
     }
 }

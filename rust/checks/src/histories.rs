@@ -12,14 +12,15 @@ pub use play::{all_hold, broken_clauses, possible};
 
 use crate::calls::{commands, requests};
 use crate::random::Random;
-use crate::{drives, maps};
-use model::{Call, Drive, Erase, Lent};
+use crate::{drives, lent, maps};
+use model::{Call, Drive, Erase, Lent, Table};
 
 /// "The list starts from an empty cache and any cells and marks. Map, marks and
-/// partition number stay the same". P5: "all places empty, no reply awaited".
+/// partition number stay the same". P5: "all places empty, no reply awaited". P6: a table.
 #[derive(Clone, Debug)]
 pub struct History {
     pub start: Drive,
+    pub table: Table,
     pub partition: u32,
     pub attempts: Vec<Attempt>,
 }
@@ -41,10 +42,18 @@ impl History {
     pub fn numbered(number: usize) -> History {
         let mut random = Random::numbered(SEED, number);
         let start = drive(&mut random);
+        // Without a table FERS is refused (2).
+        let table = if random.one_in(16) { Table::default() } else { lent::table() };
         let partition = commands::partition(&mut random, &start);
         let count = random.between(1, MOST_ATTEMPTS);
-        let attempts = (0..count).map(|_| attempt(&mut random, &start, partition)).collect();
-        History { start, partition, attempts }
+        let mut history = History { start, table, partition, attempts: vec![] };
+        history.attempts = (0..count).map(|_| attempt(&mut random, &history)).collect();
+        history
+    }
+
+    /// The drive and the table at the start, and nothing else kept yet.
+    pub fn lent(&self) -> Lent {
+        Lent { drive: self.start.clone(), table: self.table.clone(), ..Lent::default() }
     }
 }
 
@@ -70,15 +79,16 @@ fn drive(random: &mut Random) -> Drive {
     drive
 }
 
-fn attempt(random: &mut Random, drive: &Drive, partition: u32) -> Attempt {
+fn attempt(random: &mut Random, history: &History) -> Attempt {
+    let partition = history.partition;
     let call = match random.weighted(&[4, 8, 4, 3, 3]) {
         0 => Call::Erase(Erase { partition, cut: None }),
         1 => {
-            let cut = Some(commands::cut_of(random, drive, partition));
+            let cut = Some(commands::cut_of(random, &history.start, partition));
             Call::Erase(Erase { partition, cut })
         }
         2 => return right_fers(random, partition),
-        3 => return refused_fers(random, drive, partition),
+        3 => return refused_fers(random, history),
         _ => Call::Restart,
     };
     Attempt { call, buffers: Default::default() }
@@ -92,17 +102,17 @@ fn right_fers(random: &mut Random, partition: u32) -> Attempt {
 
 /// "FERS refused by a number up to 6", which may name any partition. One that
 /// turns out to have nothing wrong names the history's own.
-fn refused_fers(random: &mut Random, drive: &Drive, partition: u32) -> Attempt {
-    let other = commands::partition(random, drive);
-    let named = random.pick(&[partition, other]);
+fn refused_fers(random: &mut Random, history: &History) -> Attempt {
+    let other = commands::partition(random, &history.start);
+    let named = random.pick(&[history.partition, other]);
     let call = Call::Mailbox(requests::spoiled_fers(random, named));
     let (mut block, mut response) = requests::buffers(random);
     if random.one_in(3) {
         requests::damage_buffers(random, &mut block, &mut response);
     }
-    let lent = Lent { drive: drive.clone(), block, response, ..Lent::default() };
+    let lent = Lent { block, response, ..history.lent() };
     if call.applying(&lent).iter().all(|refusal| refusal.number() > 6) {
-        return right_fers(random, partition);
+        return right_fers(random, history.partition);
     }
     Attempt { call, buffers: (lent.block, lent.response) }
 }

@@ -1,12 +1,13 @@
 //! Document 02, P5: an engine that answers late, never, twice or with failures, beside a drive that
-//! goes on calling. After each call the proved key block is the model's, and every clause holds of
-//! its values; in the end replies and CLKC lead back to an empty cache, so that no sequence locks
-//! it for good. The clauses can fail: none does for a copy of the model, and each does for a copy
-//! with some fault, with the model not asked.
+//! goes on calling, and by P6 lists and rotates handles, from a fresh table. After each call the
+//! proved key block is the model's, and every clause holds of its values; in the end replies and
+//! CLKC lead back to an empty cache, so that no sequence locks it for good. The clauses can fail:
+//! none does for a copy of the model, and each does for a copy with some fault, with the model not
+//! asked.
 
 use checks::calls::unlike_model;
 use checks::engine::{broken, names, play, possible, BACK};
-use checks::faults::{of_engine, Faulty};
+use checks::faults::{of_engine, of_handles, Faulty};
 use checks::proved::Proved;
 use checks::tally::Tally;
 use std::collections::BTreeSet;
@@ -50,8 +51,8 @@ fn every_clause_is_broken_by_a_fault() {
     let mut whole: BTreeSet<String> = names().into_iter().collect();
     let mut numbers = 0..FEW;
     while let (Some(number), false) = (numbers.next(), whole.is_empty()) {
-        let found: BTreeSet<String> =
-            of_engine().flat_map(|fault| broken_by(fault, number)).collect();
+        let faults = of_engine().chain(of_handles());
+        let found: BTreeSet<String> = faults.flat_map(|fault| broken_by(fault, number)).collect();
         whole.retain(|clause| !found.contains(clause));
     }
     assert_eq!(whole, BTreeSet::new(), "no fault breaks these");

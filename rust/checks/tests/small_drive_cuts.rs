@@ -7,6 +7,7 @@
 use checks::calls::commands::low_bits;
 use checks::calls::requests;
 use checks::histories::{all_hold, Attempt, History};
+use checks::lent;
 use checks::small::{self, INDICATOR_STUCK, SLOT};
 use model::{Call, Cut, Erase};
 use sciambrunola::BLOCK_BYTES;
@@ -23,7 +24,7 @@ fn masks() -> impl Iterator<Item = u64> {
 }
 
 fn attempt(call: Call) -> Attempt {
-    Attempt { call, buffers: (vec![0xB1; BLOCK_BYTES], vec![0xA5; 24]) }
+    Attempt { call, buffers: (vec![0xB1; BLOCK_BYTES], vec![0xA5; 44]) }
 }
 
 /// What is asked for after, or before, this cut.
@@ -45,7 +46,10 @@ fn every_cut_of_the_small_drive_keeps_demand_3_and_is_the_models() {
     for marks in STUCK {
         for cut in KS.into_iter().flat_map(|k| masks().map(move |mask| Cut { k, mask })) {
             let start = small::stuck(marks).drive;
-            let of = |attempts| History { start: start.clone(), partition: SLOT, attempts };
+            let of = |attempts| {
+                let (start, table) = (start.clone(), lent::table());
+                History { start, table, partition: SLOT, attempts }
+            };
             histories.extend(lists(cut).into_iter().map(of));
         }
     }

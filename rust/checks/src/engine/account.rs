@@ -1,8 +1,10 @@
-//! An account of the orders that a key block gave and of the replies that it took.
+//! An account of the orders that a key block gave and of the replies that it took, and of the
+//! handles that it gave.
 
-use model::{Call, EngineReply, Erasure, Order, Reply, Said, PLACES};
+use crate::small::response;
+use model::{Call, EngineReply, Erasure, Lent, Order, Reply, Request, Said, PLACES};
 
-/// The orders of a sequence, in the order in which they were given.
+/// The orders of a sequence, in the order in which they were given, and its handles.
 #[derive(Clone, Default)]
 pub struct Account {
     pub orders: Vec<Given>,
@@ -10,6 +12,10 @@ pub struct Account {
     pub open: Option<usize>,
     /// The last order that named each place, if any since the last cut or restart.
     pub named: [Option<usize>; PLACES],
+    /// The table's handles with their algorithms, as it was made and as RHPK answered since.
+    pub handles: Vec<[u32; 2]>,
+    /// The numbers of the handles at the start and of all that were given since.
+    pub numbers: Vec<u32>,
 }
 
 /// An order that was given.
@@ -22,9 +28,14 @@ pub struct Given {
 }
 
 impl Account {
-    /// Enters what a call came to.
-    pub fn enter(&mut self, call: &Call, said: Said) {
+    /// Enters what a call came to, and what it left.
+    pub fn enter(&mut self, call: &Call, said: Said, left: &Lent) {
         match (call, said) {
+            (Call::MakeTable { handles, algorithms }, Said::Made(Ok(()))) => {
+                let both = handles.iter().zip(algorithms);
+                self.handles = both.map(|(handle, algorithm)| [*handle, *algorithm]).collect();
+                self.numbers.extend(handles);
+            }
             (_, Said::Nothing | Said::Erasure(Erasure::Cut { .. })) => {
                 (self.open, self.named) = (None, [None; PLACES]);
             }
@@ -33,6 +44,7 @@ impl Account {
                 open.into_iter().for_each(|given| given.answer = Some(*reply));
             }
             (Call::Mailbox(request), Said::Reply(Reply::Accepted { order, .. })) => {
+                self.rotate(request, left);
                 let number = Some(self.orders.len());
                 match order {
                     Order::None => return,
@@ -45,6 +57,16 @@ impl Account {
                 self.orders.push(Given { order, tag: request.tag(), answer: None });
             }
             _ => {}
+        }
+    }
+
+    /// Enters the number that RHPK answered, in the place of the handle that it names.
+    fn rotate(&mut self, request: &Request, left: &Lent) {
+        if let Some(old) = request.handle() {
+            let new = response(left, 16)[3];
+            self.numbers.push(new);
+            let named = self.handles.iter_mut().find(|[handle, _]| *handle == old);
+            named.into_iter().for_each(|[handle, _]| *handle = new);
         }
     }
 }

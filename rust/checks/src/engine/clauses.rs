@@ -1,9 +1,10 @@
 //! What holds after every call, each as a check of values.
 
 use super::account::{Account, Given};
+use crate::small::response;
 use crate::tally::{self, Row};
 use model::Place::{Held, Waiting};
-use model::{Awaited, Call, Drive, EngineReply, Lent, Order, Place, Said};
+use model::{Awaited, Call, Drive, EngineReply, Lent, Order, Place, Reply, Said};
 use sciambrunola::{why, Reason};
 
 /// A call as it was made.
@@ -57,16 +58,27 @@ const ALL: &[Row<Clause>] = &[
         !matches!(s.call, Call::EngineReply(_))
             || s.said.refusal().is_some() == s.was.open.is_none()
     }),
-    ("no tag stands in two places", |s| {
-        let mut tags = s.after.cache.tags();
-        tags.sort_unstable();
-        tags.windows(2).all(|two| two[0] != two[1])
-    }),
+    ("no tag stands in two places", |s| distinct(s.after.cache.tags())),
     ("after done to a clear every place is empty", |s| {
         let open = s.was.open.map(|order| s.was.orders[order].order);
         let done = matches!(s.call, Call::EngineReply(EngineReply::Done));
         let cleared = matches!(open, Some(Order::Clear { .. })) && done;
         !cleared || s.places().iter().all(|place| *place == Place::Empty)
+    }),
+    // P6: "prove that from it, while only our calls change the table, no number is given twice".
+    ("the handles at the start and all that are given since are distinct", |s| {
+        distinct(s.now.numbers.clone())
+    }),
+    ("every handle of the table was there at the start or is given since", |s| {
+        let mut listed = s.after.table.listed().into_iter().flatten();
+        listed.all(|handle| s.now.numbers.contains(&handle.number))
+    }),
+    ("EHDL tells the table as it was made, with what RHPK gave at its place", |s| match s.said {
+        Said::Reply(Reply::Accepted { length, .. }) if s.call.name() == "EHDL" => {
+            let count = s.now.handles.len() as u32;
+            response(s.after, length)[3..] == [&[count][..], &s.now.handles.concat()].concat()
+        }
+        _ => true,
     }),
 ];
 
@@ -81,6 +93,11 @@ pub fn broken(step: &Step) -> Vec<String> {
 /// The names of all clauses.
 pub fn names() -> Vec<String> {
     tally::names(ALL).into_iter().chain([BACK.to_string()]).collect()
+}
+
+fn distinct<T: Ord>(mut numbers: Vec<T>) -> bool {
+    numbers.sort_unstable();
+    numbers.windows(2).all(|two| two[0] != two[1])
 }
 
 impl Step<'_> {

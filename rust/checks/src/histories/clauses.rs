@@ -5,7 +5,7 @@ use super::play::Step;
 use crate::small::response;
 use crate::tally::{self, Row};
 use model::{Cache, Call, Cut, Erase, Erasure, Reply, Said};
-use sciambrunola::{LEAST_RESPONSE, NO_CELL};
+use sciambrunola::NO_CELL;
 
 /// What a clause says of one attempt: whether it holds, or none where it asks for nothing.
 type Clause = fn(&Step) -> Option<bool>;
@@ -95,6 +95,8 @@ pub const ALL: &[Row<Clause>] = &[
     ("a restart changes no cell", |s| s.is_restart().then(|| s.cells() == s.before.drive.cells)),
     // P5: "Demand 3 begins with all places empty, no reply awaited", and no attempt has an order.
     ("every place is empty, no reply awaited", |s| Some(s.after.cache == Cache::default())),
+    // P6: "kept with the table, which a restart leaves"
+    ("the table is the starting one", |s| Some(s.after.table == s.history.table)),
 ];
 
 /// The clauses that do not hold after this attempt.
@@ -139,7 +141,7 @@ impl Step<'_> {
                 Some([short_pairs, first_short.unwrap_or(NO_CELL)])
             }
             Said::Reply(Reply::Accepted { .. }) => {
-                let fields = response(&self.after, LEAST_RESPONSE);
+                let fields = response(&self.after, response_length(self));
                 Some([fields[3], fields[4]])
             }
             _ => None,

@@ -26,7 +26,7 @@ pub struct Step<'a> {
     /// what it said only a refusal counts.
     pub cut: Option<Cut>,
     /// Of an uncut attempt: what "the same call, same request and buffer lengths, made alone from
-    /// the starting cells and an empty cache" says and leaves.
+    /// the starting cells and an empty cache", with the starting table, says and leaves.
     pub alone: Option<(Said, Lent)>,
     /// Whether the attempt was accepted and ran uncut to its end: one that is
     /// neither refused nor cut has to have.
@@ -202,7 +202,7 @@ pub fn broken_clauses(history: &History, block: &mut impl KeyBlock) -> BTreeSet<
 /// Plays the attempts one after the other.
 fn play<'a>(history: &'a History, block: &mut impl KeyBlock) -> Vec<Step<'a>> {
     let whole = Layout::of(&history.start, history.partition);
-    let mut left = start(history);
+    let mut left = history.lent();
     let mut steps: Vec<Step> = Vec::new();
     for attempt in &history.attempts {
         let call = &attempt.call;
@@ -238,11 +238,6 @@ fn cut(call: &Call, said: Said, partition: Option<&Layout>) -> Option<Cut> {
     ((named.k as usize) < burns).then_some(named)
 }
 
-/// The drive at the start, and nothing kept yet.
-fn start(history: &History) -> Lent {
-    Lent { drive: history.start.clone(), ..Lent::default() }
-}
-
 /// What an attempt is lent: what the one before left, and buffers of its own.
 fn lent(left: Lent, attempt: &Attempt) -> Lent {
     let (block, response) = attempt.buffers.clone();
@@ -252,7 +247,7 @@ fn lent(left: Lent, attempt: &Attempt) -> Lent {
 /// The attempt made alone. Of the buffers only the lengths are the same, so
 /// every byte of them is another one.
 fn alone(history: &History, attempt: &Attempt, block: &mut impl KeyBlock) -> (Said, Lent) {
-    let mut lent = lent(start(history), attempt);
+    let mut lent = lent(history.lent(), attempt);
     let bytes = lent.block.iter_mut().chain(&mut lent.response);
     bytes.for_each(|byte| *byte = !*byte);
     let said = block.answer(&mut lent, &attempt.call);
