@@ -25,6 +25,9 @@ use Rattle.cache.specs.Laws.{kind-read, tag-read, awaited-read, placed-i
 abbrev pub Long : (context : List ℕ) → Type 0
 Long context = cacheWords ≤ length context
 
+pub store-long : (context : List ℕ) (i v : ℕ) → cacheWords ≤ i → Long context → Long (set context i v)
+store-long context i v _ long = rw (length-set context i v) long
+
 -- a place has this kind and this tag
 pub record Is (context : List ℕ) (j kind tag : ℕ) : Type 0 where
   pub kind-is : kindIn (cacheOf context) j ≡ kind

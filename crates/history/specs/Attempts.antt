@@ -1,4 +1,4 @@
--- Demand 3: every attempt has its form, FERS too, and each leaves all places empty and no reply awaited. Assumes nothing.
+-- Demand 3: every attempt has its form, FERS too, and each leaves all places empty, no reply awaited and the table. Assumes nothing.
 use Prim.Native.Nat.{ℕ, _≤_}
 use mathlib.Core.Path.{_≡_, refl, sym, ap, subst, _∙_}
 use mathlib.Core.Logic.{⊎-elim}
@@ -14,6 +14,7 @@ use Rattle.laws.specs.Refusals.{firstOf, first-elim, Applies, anyApplies, numbe
 use Rattle.context.specs.State.{State, Outcome, outcome, refusing}
 use Rattle.cache.specs.Cache.{cacheOf, AtRest, emptied}
 use Rattle.cache.specs.Laws.{emptied-rest}
+use Rattle.handles.specs.Handles.{tableOf}
 use Rattle.burns.specs.declared.End.{End}
 use Rattle.burns.specs.declared.End.the-variants.{Whole, Stopped, Cut as CutEnd}
 use Rattle.burns.specs.Run.{Tally}
@@ -26,11 +27,12 @@ use Rattle.codec.specs.Request.{requestTests}
 use Rattle.codec.specs.Laws.{response-long}
 use Rattle.mailbox.specs.declared.effects.Effect.{Effect}
 use Rattle.mailbox.specs.declared.Reply.the-variants.{Refused, Accepted as Accepted′}
-use Rattle.mailbox.specs.Laws.{fers-orders}
+use Rattle.mailbox.specs.Laws.{fers-context}
 use Rattle.mailbox.specs.Mailbox.{refused, fersOf, partitionIn, accepted, mailboxTests, doneOf, contextAfter, responseAfter, replyOf, Lent, lent, writtenOut}
-use Rattle.history.specs.Calls.{Call, Direct, Erase, EraseCut, Mailbox, TakeReply, Restart, Told, Replying, lengthIn, replying, told, refusal, after}
+use Rattle.history.specs.Calls.{Call, Direct, Erase, EraseCut, Mailbox, TakeReply, MakeTable, Restart, Told, Replying, lengthIn, replying, told, refusal, after}
 use Rattle.history.specs.Demand3.{Attempt, withBuffers, SameLengths}
-use Rattle.history.specs.Forms.{Does, Quiet, quiet, arrays-same, places-same, busy-same, Ready, whole-at, Form, refuses, runs, erase-form, cut-uncut}
+use Rattle.history.specs.Kept.{emptied-table}
+use Rattle.history.specs.Forms.{Does, Quiet, quiet, arrays-same, places-same, busy-same, table-same, Ready, whole-at, Form, refuses, runs, erase-form, cut-uncut}
 
 -- ---- FERS, on the partition p that its request names
 
@@ -58,7 +60,7 @@ fers-late image i t CutEnd l m = omega arith
 refused-tells : (n : ℕ) → eqb n 0 ≡ false → (l : Lent) (request cells : List ℕ) → replying (writtenOut request l (outcome (refused n) cells)) .told ≡ Replying (Refused n) []
 refused-tells n o l request cells = rw o
 
-module _ (image marks cells request response block : List ℕ) where
+module _ (image marks : List ℕ) (start : State) (request response block : List ℕ) where
   abbrev call : Call
   call = Mailbox (codeOf Fers) request response block
 
@@ -73,17 +75,17 @@ module _ (image marks cells request response block : List ℕ) where
   erased s = accepted Fers image marks request s
 
   fersTests : List (Bool × ℕ)
-  fersTests = mailboxTests image marks (codeOf Fers) request (length response) (length block) (quiet cells)
+  fersTests = mailboxTests image marks (codeOf Fers) request (length response) (length block) (quiet start)
 
   -- no refusal by the tests has the number 0
   tested : anyApplies fersTests ≡ true → 1 ≤ numberOf fersTests
   unfolding fersTests requestTests
   tested y = applies-least 1 fersTests refl (numberOf fersTests) (number-applies fersTests y)
 
-  module _ (s : State) (q : Quiet cells s) (response′ block′ : List ℕ) (l : SameLengths call response′ block′) where
+  module _ (s : State) (q : Quiet start s) (response′ block′ : List ℕ) (l : SameLengths call response′ block′) where
     by-fers : doing s response′ block′ ≡ firstOf (refusing refused (s .cells)) fersTests (erased s)
     unfolding doneOf fersTests
-    by-fers = rw (l .0, l .1, arrays-same image marks cells s q, places-same cells s q, busy-same cells s q)
+    by-fers = rw (l .0, l .1, arrays-same image marks start s q, table-same start s q, places-same start s q, busy-same start s q)
 
     -- what is told and left, by what was done
     fers-told : {d : Outcome Effect (List ℕ)} {t : Told} → doing s response′ block′ ≡ d → replying (writtenOut request (lent s response′ block′) d) .told ≡ t
@@ -103,7 +105,7 @@ module _ (image marks cells request response block : List ℕ) where
         (shown (fersOf (uncutOf image (s .cells) marks p .told)) response′)
 
   -- a request that passes the tests names the partition, since what refuses it then is 15
-  fers-named : (i : ℕ) (s : State) → Quiet cells s → anyApplies fersTests ≡ false → Attempt image marks i call s → p ≡ i
+  fers-named : (i : ℕ) (s : State) → Quiet start s → anyApplies fersTests ≡ false → Attempt image marks i call s → p ≡ i
   fers-named i s q o a =
       ⊎-elim (λ e. e)
       (λ early.
@@ -111,7 +113,7 @@ module _ (image marks cells request response block : List ℕ) where
       absurd (fers-late image p _ (runOn image (s .cells) marks p never 0 .end) (rw e at (early .1)) (rw e at (early .0))))
       (a .1)
 
-  fers-form : (i : ℕ) (s : State) → Quiet cells s → Attempt image marks i call s → Form image marks i cells call
+  fers-form : (i : ℕ) (s : State) → Quiet start s → Attempt image marks i call s → Form image marks i start call
   unfolding fersTests requestTests
   fers-form i s q a =
       ⊎-elim
@@ -122,56 +124,63 @@ module _ (image marks cells request response block : List ℕ) where
       (λ s q response′ block′ l. fers-refused s q response′ block′ l y))
       (λ (o : anyApplies fersTests ≡ false).
       let none = none-accepts (λ n. n) 0 fersTests o .none in
-      let ready : Ready image marks p cells = record { good = not-false _ (none 0); arrays = not-false _ (none 1); partition = leb-false _ _ (none 7); may = not-false _ (none 8) } in
-      subst (λ (j : ℕ). Form image marks j cells call) (fers-named i s q o a)
-      (runs never 0 (λ answer. effectTells (fersOf answer)) ready (λ t. refl) (λ s q u e. uncut-judged image (s .cells) p (whole-at image marks p cells ready s q) (ready .partition) marks 0 e)
+      let ready : Ready image marks p start = record { good = not-false _ (none 0); arrays = not-false _ (none 1); partition = leb-false _ _ (none 7); may = not-false _ (none 8) } in
+      subst (λ (j : ℕ). Form image marks j start call) (fers-named i s q o a)
+      (runs never 0 (λ answer. effectTells (fersOf answer)) ready (λ t. refl) (λ s q u e. uncut-judged image (s .cells) p (whole-at image marks p start ready s q) (ready .partition) marks 0 e)
       (λ s q response′ block′ l. fers-runs s q response′ block′ l o)))
       (decided (anyApplies fersTests))
 
 -- ---- every attempt
 
-pub form : (image marks : List ℕ) (i : ℕ) (cells : List ℕ) (call : Call) (s : State) → Quiet cells s → Attempt image marks i call s → Form image marks i cells call
-form image marks i cells (Direct command) s q a = absurd a
-form image marks i cells (Erase j) s q a =
-    subst (λ (j : ℕ). Form image marks i cells (Erase j)) (sym a)
-    (erase-form image marks i cells never 0 (Erase i) (λ s response block. (refl, refl))
-    (λ ready s q t u e. uncut-judged image (s .cells) i (whole-at image marks i cells ready s q) (ready .partition) marks 0 e))
-form image marks i cells (EraseCut j k mask) s q a =
-    subst (λ (j : ℕ). Form image marks i cells (EraseCut j k mask)) (sym a)
-    (erase-form image marks i cells k mask (EraseCut i k mask) (λ s response block. (refl, refl)) (cut-uncut image marks i cells k mask))
-form image marks i cells (Mailbox code request response block) s q a = by code (a .0) a
+pub form : (image marks : List ℕ) (i : ℕ) (start : State) (call : Call) (s : State) → Quiet start s → Attempt image marks i call s → Form image marks i start call
+form image marks i start (Direct command) s q a = absurd a
+form image marks i start (Erase j) s q a =
+    subst (λ (j : ℕ). Form image marks i start (Erase j)) (sym a)
+    (erase-form image marks i start never 0 (Erase i) (λ s response block. (refl, refl))
+    (λ ready s q t u e. uncut-judged image (s .cells) i (whole-at image marks i start ready s q) (ready .partition) marks 0 e))
+form image marks i start (EraseCut j k mask) s q a =
+    subst (λ (j : ℕ). Form image marks i start (EraseCut j k mask)) (sym a)
+    (erase-form image marks i start k mask (EraseCut i k mask) (λ s response block. (refl, refl)) (cut-uncut image marks i start k mask))
+form image marks i start (Mailbox code request response block) s q a = by code (a .0) a
   where
-    by : (code : ℕ) → code ≡ codeOf Fers → Attempt image marks i (Mailbox code request response block) s → Form image marks i cells (Mailbox code request response block)
+    by : (code : ℕ) → code ≡ codeOf Fers → Attempt image marks i (Mailbox code request response block) s → Form image marks i start (Mailbox code request response block)
     by code e a =
-        subst (λ (code : ℕ). Form image marks i cells (Mailbox code request response block)) (sym e)
-        (fers-form image marks cells request response block i s q (subst (λ (code : ℕ). Attempt image marks i (Mailbox code request response block) s) e a))
-form image marks i cells (TakeReply reply) s q a = absurd a
-form image marks i cells Restart s q a = absurd a
+        subst (λ (code : ℕ). Form image marks i start (Mailbox code request response block)) (sym e)
+        (fers-form image marks start request response block i s q (subst (λ (code : ℕ). Attempt image marks i (Mailbox code request response block) s) e a))
+form image marks i start (TakeReply reply) s q a = absurd a
+form image marks i start (MakeTable handles algorithms) s q a = absurd a
+form image marks i start Restart s q a = absurd a
 
--- each leaves all places empty and no reply awaited
-rest-erased : (image marks : List ℕ) (i k mask : ℕ) (s : State) → AtRest (cacheOf (s .context)) → AtRest (cacheOf (eraseOf image marks i k mask s .after .context))
+-- each leaves all places empty, no reply awaited, and the table
+pub record Rested (before context : List ℕ) : Type 0 where
+  pub rest : AtRest (cacheOf context)
+  pub table : tableOf context ≡ tableOf before
+
+rest-erased : (image marks : List ℕ) (i k mask : ℕ) (s : State) → AtRest (cacheOf (s .context)) → Rested (s .context) (eraseOf image marks i k mask s .after .context)
 unfolding eraseOf
 rest-erased image marks i k mask s h =
-    first-elim (λ (o : Outcome Answer State). AtRest (cacheOf (o .after .context))) (refusing unburned s) (eraseTests image marks i s) (burning image marks i k mask s)
-    (λ n _. h) (λ none. h)
+    first-elim (λ (o : Outcome Answer State). Rested (s .context) (o .after .context)) (refusing unburned s) (eraseTests image marks i s) (burning image marks i k mask s)
+    (λ n _. record { rest = h; table = refl }) (λ none. record { rest = h; table = refl })
 
 pub rest-after : (image marks : List ℕ) (i : ℕ) (call : Call) (s : State) → Attempt image marks i call s → AtRest (cacheOf (s .context))
-    → AtRest (cacheOf (after image marks call s .context))
+    → Rested (s .context) (after image marks call s .context)
 unfolding doneOf
 rest-after image marks i (Direct command) s a h = absurd a
 rest-after image marks i (Erase j) s a h = rest-erased image marks j never 0 s h
 rest-after image marks i (EraseCut j k mask) s a h =
     let o = eraseOf image marks j k mask s in
-    cond-keeps (λ (context : List ℕ). AtRest (cacheOf context)) (isCut (o .told)) (emptied (o .after .context)) (o .after .context)
-    (λ _. emptied-rest (o .after .context)) (λ _. rest-erased image marks j k mask s h)
+    let kept = rest-erased image marks j k mask s h in
+    cond-keeps (Rested (s .context)) (isCut (o .told)) (emptied (o .after .context)) (o .after .context)
+    (λ _. record { rest = emptied-rest (o .after .context); table = emptied-table (o .after .context) ∙ kept .table }) (λ _. kept)
 rest-after image marks i (Mailbox code request response block) s a h = by code (a .0)
   where
-    by : (code : ℕ) → code ≡ codeOf Fers → AtRest (cacheOf (after image marks (Mailbox code request response block) s .context))
+    by : (code : ℕ) → code ≡ codeOf Fers → Rested (s .context) (after image marks (Mailbox code request response block) s .context)
     by code e =
         rw e
-        (first-elim (λ (d : Outcome Effect (List ℕ)). AtRest (cacheOf (contextAfter (d .told) (s .context))))
+        (first-elim (λ (d : Outcome Effect (List ℕ)). Rested (s .context) (contextAfter (d .told) (s .context)))
         (refusing refused (s .cells)) (mailboxTests image marks (codeOf Fers) request (length response) (length block) s) (accepted Fers image marks request s)
-        (λ n _. h)
-        (λ none. rw (fers-orders (uncutOf image (s .cells) marks (partitionIn request) .told)) h))
+        (λ n _. record { rest = h; table = refl })
+        (λ none. rw (fers-context (uncutOf image (s .cells) marks (partitionIn request) .told) (s .context)) (record { rest = h; table = refl })))
 rest-after image marks i (TakeReply reply) s a h = absurd a
+rest-after image marks i (MakeTable handles algorithms) s a h = absurd a
 rest-after image marks i Restart s a h = absurd a

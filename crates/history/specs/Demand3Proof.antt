@@ -22,37 +22,41 @@ use Rattle.erasure.specs.Laws.{part-long}
 use Rattle.erasure.specs.Parts.{Outside, array-at}
 use Rattle.history.specs.Calls.{Call, Restart, after, afterAll}
 use Rattle.history.specs.Demand3.{Attempt, Accepted, History, Finished, InPartition, InIndicator, Demand3}
+use Rattle.history.specs.Kept.{emptied-table}
 use Rattle.history.specs.Forms.{Ready}
 use Rattle.history.specs.Reached.{part, Reached, reached-start, reached-same, there, Filled, reached-attempt, filled-attempt, erased-attempt}
 use Rattle.history.specs.Reached.{refused-attempt, alone-answer, alone-cells}
 
-module _ (image marks : List ℕ) (i : ℕ) (cells : List ℕ) where
+module _ (image marks : List ℕ) (i : ℕ) (start : State) where
+  abbrev cells : List ℕ
+  cells = start .cells
+
   -- ---- every history
 
-  reached-restart : (s : State) → Reached image marks i cells s → Reached image marks i cells (after image marks Restart s)
-  reached-restart s r = reached-same image marks i cells s (after image marks Restart s) r refl (emptied-rest (s .context))
+  reached-restart : (s : State) → Reached image marks i start s → Reached image marks i start (after image marks Restart s)
+  reached-restart s r = reached-same image marks i start s (after image marks Restart s) r refl (record { rest = emptied-rest (s .context); table = emptied-table (s .context) })
 
-  reached-call : (call : Call) (s : State) → Reached image marks i cells s → Attempt image marks i call s ⊎ (call ≡ Restart) → Reached image marks i cells (after image marks call s)
-  reached-call call s r (inl a) = reached-attempt image marks i cells call s r a
+  reached-call : (call : Call) (s : State) → Reached image marks i start s → Attempt image marks i call s ⊎ (call ≡ Restart) → Reached image marks i start (after image marks call s)
+  reached-call call s r (inl a) = reached-attempt image marks i start call s r a
   reached-call call s r (inr e) = rw e (reached-restart s r)
 
-  reached-all : (calls : List Call) (s : State) → Reached image marks i cells s → History image marks i calls s → Reached image marks i cells (afterAll image marks calls s)
+  reached-all : (calls : List Call) (s : State) → Reached image marks i start s → History image marks i calls s → Reached image marks i start (afterAll image marks calls s)
   reached-all [] s r h = r
   reached-all (call ∷ calls) s r h = reached-all calls (after image marks call s) (reached-call call s r (h .0)) (h .1)
 
-  filled-call : (call : Call) (s : State) → Reached image marks i cells s → Attempt image marks i call s ⊎ (call ≡ Restart)
-      → Filled image marks i cells (s .cells) → Filled image marks i cells (after image marks call s .cells)
-  filled-call call s r (inl a) f = filled-attempt image marks i cells call s r a f
+  filled-call : (call : Call) (s : State) → Reached image marks i start s → Attempt image marks i call s ⊎ (call ≡ Restart)
+      → Filled image marks i start (s .cells) → Filled image marks i start (after image marks call s .cells)
+  filled-call call s r (inl a) f = filled-attempt image marks i start call s r a f
   filled-call call s r (inr e) f = rw e f
 
-  filled-all : (calls : List Call) (s : State) → Reached image marks i cells s → History image marks i calls s
-      → Filled image marks i cells (s .cells) ⊎ Finished image marks i calls s → Filled image marks i cells (afterAll image marks calls s .cells)
+  filled-all : (calls : List Call) (s : State) → Reached image marks i start s → History image marks i calls s
+      → Filled image marks i start (s .cells) ⊎ Finished image marks i calls s → Filled image marks i start (afterAll image marks calls s .cells)
   filled-all [] s r h (inl f) = f
   filled-all [] s r h (inr e) = absurd e
   filled-all (call ∷ calls) s r h (inl f) = filled-all calls (after image marks call s) (reached-call call s r (h .0)) (h .1) (inl (filled-call call s r (h .0) f))
   filled-all (call ∷ calls) s r h (inr e) =
       filled-all calls (after image marks call s) (reached-call call s r (h .0)) (h .1)
-      (⊎-elim (λ (y : Accepted image marks i call s). inl (erased-attempt image marks i cells call s r (y .attempt) (y .uncut) (y .accepted))) inr e)
+      (⊎-elim (λ (y : Accepted image marks i call s). inl (erased-attempt image marks i start call s r (y .attempt) (y .uncut) (y .accepted))) inr e)
 
   -- ---- from the partition to the array
 
@@ -61,18 +65,18 @@ module _ (image marks : List ℕ) (i : ℕ) (cells : List ℕ) where
     abbrev at : ℕ
     at = j - entryOf image i .first
 
-    cell-at : (c : List ℕ) → getD (part image marks i cells c) at 0 ≡ getD c j 0
+    cell-at : (c : List ℕ) → getD (part image marks i start c) at 0 ≡ getD c j 0
     cell-at c = array-at image c i j (inside .0) (inside .1)
 
-    filled-at : (c : List ℕ) → Filled image marks i cells c → getD c j 0 ≡ bitOr (getD cells j 0) (free (getD marks j 0))
+    filled-at : (c : List ℕ) → Filled image marks i start c → getD c j 0 ≡ bitOr (getD cells j 0) (free (getD marks j 0))
     filled-at c f = sym (cell-at c) ∙ f at (omega (arith, inside .0, inside .1)) ∙ ap₂ (λ (stuck cell : ℕ). full stuck cell) (cell-at marks) (cell-at cells)
 
-    kept-at : (s : State) → Reached image marks i cells s → getD cells j 0 ⊆ getD (s .cells) j 0
+    kept-at : (s : State) → Reached image marks i start s → getD cells j 0 ⊆ getD (s .cells) j 0
     kept-at s r =
         subst (λ (x : ℕ). x ⊆ getD (s .cells) j 0) (cell-at cells)
-        (subst (λ (x : ℕ). getD (part image marks i cells cells) at 0 ⊆ x) (cell-at (s .cells)) (r .safe .between at .kept))
+        (subst (λ (x : ℕ). getD (part image marks i start cells) at 0 ⊆ x) (cell-at (s .cells)) (r .safe .between at .kept))
 
-  none-cleared-by : (s : State) → Reached image marks i cells s → (j : ℕ) → getD cells j 0 ⊆ getD (s .cells) j 0
+  none-cleared-by : (s : State) → Reached image marks i start s → (j : ℕ) → getD cells j 0 ⊆ getD (s .cells) j 0
   none-cleared-by s r j =
       ⊎-elim
       (λ (b : j < entryOf image i .first). outside-kept (inl b))
@@ -85,15 +89,15 @@ module _ (image marks : List ℕ) (i : ℕ) (cells : List ℕ) where
 
   -- ---- whether an erasure gets past the tests
 
-  not-ready : (mapGood image ≡ false) ⊎ ((wholeArrays image cells marks ≡ false) ⊎ (headerOf image .partitions ≤ i)) → Ready image marks i cells → ⊥
+  not-ready : (mapGood image ≡ false) ⊎ ((wholeArrays image cells marks ≡ false) ⊎ (headerOf image .partitions ≤ i)) → Ready image marks i start → ⊥
   not-ready (inl bad) ready = false≢true (sym bad ∙ ready .good)
   not-ready (inr (inl bad)) ready = false≢true (sym bad ∙ ready .arrays)
   not-ready (inr (inr l)) ready = omega (arith, ready .partition)
 
-  not-may : zeroizable (entryOf image i) ≡ false → Ready image marks i cells → ⊥
+  not-may : zeroizable (entryOf image i) ≡ false → Ready image marks i start → ⊥
   not-may z ready = false≢true (sym z ∙ ready .may)
 
-  ready-or-not : Ready image marks i cells ⊎ (Ready image marks i cells → ⊥)
+  ready-or-not : Ready image marks i start ⊎ (Ready image marks i start → ⊥)
   ready-or-not =
       ⊎-elim
       (λ (g : mapGood image ≡ true).
@@ -113,19 +117,19 @@ module _ (image marks : List ℕ) (i : ℕ) (cells : List ℕ) where
       (decided (mapGood image))
 
   -- marked, or untouched but for the indicator
-  module _ (s : State) (r : Reached image marks i cells s) where
-    gate-marked : Ready image marks i cells
-        → goesOn (part image marks i cells (s .cells)) ≡ true
+  module _ (s : State) (r : Reached image marks i start s) where
+    gate-marked : Ready image marks i start
+        → goesOn (part image marks i start (s .cells)) ≡ true
         → markedAt image (s .cells) i ≡ true
     unfolding markedAt
-    gate-marked ready on = rw (ready .may) (sym (on-marked (part image marks i cells (s .cells))) ∙ on)
+    gate-marked ready on = rw (ready .may) (sym (on-marked (part image marks i start (s .cells))) ∙ on)
 
-    gate-untouched : Ready image marks i cells → Untouched (part image marks i cells cells) (part image marks i cells (s .cells))
+    gate-untouched : Ready image marks i start → Untouched (part image marks i start cells) (part image marks i start (s .cells))
         → (j : ℕ) → InPartition image i j → (InIndicator image i j → ⊥) → getD (s .cells) j 0 ≡ getD cells j 0
     gate-untouched ready untouched j inside other =
         let before : j + 2 < endOf (entryOf image i) =
         ⊎-elim (λ l. l) (λ (l : endOf (entryOf image i) ≤ j + 2). absurd (other (ready .may, l))) (lt-or-le (j + 2) (endOf (entryOf image i))) in
-        let long = part-long image cells i (there image marks i cells ready 0 0 s r) (ready .partition) in
+        let long = part-long image cells i (there image marks i start ready 0 0 s r) (ready .partition) in
         sym (cell-at j inside (s .cells)) ∙ untouched (at j inside) (omega (arith, inside .0)) ∙ cell-at j inside cells
 
     gate : (markedAt image (s .cells) i ≡ true) ⊎ ((j : ℕ) → InPartition image i j → (InIndicator image i j → ⊥) → getD (s .cells) j 0 ≡ getD cells j 0)
@@ -139,18 +143,18 @@ module _ (image marks : List ℕ) (i : ℕ) (cells : List ℕ) where
 
 pub demand-3 : Demand3
 demand-3 image marks i start h calls history =
-    let cells = start .cells in
     let now = afterAll image marks calls start in
-    let r : Reached image marks i cells now = reached-all image marks i cells calls start (reached-start image marks i cells start refl h) history in
+    let r : Reached image marks i start now = reached-all image marks i start calls start (reached-start image marks i start h) history in
     record {
-      marked-or-untouched = gate image marks i cells now r;
+      marked-or-untouched = gate image marks i start now r;
       outside = r .outside;
       as-many = r .quiet .long;
-      none-cleared = none-cleared-by image marks i cells now r;
+      none-cleared = none-cleared-by image marks i start now r;
       at-rest = r .quiet .rest;
-      exactly = λ f j inside. filled-at image marks i cells j inside (now .cells) (filled-all image marks i cells calls start (reached-start image marks i cells start refl h) history (inr f));
-      same-answer = λ call a u alone. alone-answer image marks i cells call now r a u alone;
-      same-cells = λ call a u z alone. alone-cells image marks i cells call now r a u alone z;
-      bad-refused = λ bad call a. let refused = refused-attempt image marks i cells call now r a (not-ready image marks i cells bad) in (refused .0, ap (λ (s : State). s .cells) (refused .1));
-      not-zeroizable-refused = λ z call a. refused-attempt image marks i cells call now r a (not-may image marks i cells z);
+      same-table = r .quiet .table;
+      exactly = λ f j inside. filled-at image marks i start j inside (now .cells) (filled-all image marks i start calls start (reached-start image marks i start h) history (inr f));
+      same-answer = λ call a u alone. alone-answer image marks i start call now r a u alone;
+      same-cells = λ call a u z alone. alone-cells image marks i start call now r a u alone z;
+      bad-refused = λ bad call a. let refused = refused-attempt image marks i start call now r a (not-ready image marks i start bad) in (refused .0, ap (λ (s : State). s .cells) (refused .1));
+      not-zeroizable-refused = λ z call a. refused-attempt image marks i start call now r a (not-may image marks i start z);
     }

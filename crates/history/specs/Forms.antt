@@ -10,11 +10,12 @@ use lib.ListN.{length}
 use borrow.Author.Tests.{not-false, leb-false}
 use Rattle.laws.specs.Tests.{decided}
 use Rattle.laws.specs.Refusals.{firstOf, Applies, anyApplies, numberOf, any-refuses, none-accepts, number-applies, not-applies, applies-least}
-use Rattle.context.specs.State.{State, state, Outcome, refusing}
+use Rattle.context.specs.State.{State, withContext, Outcome, refusing}
 use Rattle.map.specs.Map.{headerOf, entryOf, zeroizable, mapGood}
 use Rattle.drive.specs.Drive.{Whole as WholeDrive, wholeArrays}
 use Rattle.cache.specs.Cache.{cacheOf, busy, AtRest, emptied}
 use Rattle.cache.specs.Laws.{emptied-rest, rest-idle}
+use Rattle.handles.specs.Handles.{tableOf}
 use Rattle.burns.specs.declared.End.{End}
 use Rattle.burns.specs.declared.End.the-variants.{Stopped, Cut as CutEnd}
 use Rattle.burns.specs.Run.{Tally, Ran}
@@ -22,7 +23,8 @@ use Rattle.erasure.specs.declared.Answer.{Answer}
 use Rattle.erasure.specs.declared.Answer.the-variants.{Refused as RefusedErasure}
 use Rattle.erasure.specs.Erasure.{runOn, answerBy, ranOf, unburned, eraseTests, burning, eraseOf}
 use Rattle.erasure.specs.Cuts.{past-order, whole-by}
-use Rattle.history.specs.Calls.{occupied, Call, Direct, Erase, EraseCut, Mailbox, TakeReply, Restart, Told, Erasing, told, refusal, after}
+use Rattle.history.specs.Calls.{occupied, Call, Direct, Erase, EraseCut, Mailbox, TakeReply, MakeTable, Restart, Told, Erasing, told, refusal, after}
+use Rattle.history.specs.Kept.{emptied-table}
 use Rattle.history.specs.Demand3.{Uncut, withBuffers, SameLengths}
 
 -- a call as it was lent: with its own buffers
@@ -38,6 +40,7 @@ own (Erase i) = record { response = []; block = []; same = tt; is = refl }
 own (EraseCut i k mask) = record { response = []; block = []; same = tt; is = refl }
 own (Mailbox code request response block) = record { response = response; block = block; same = (refl, refl); is = refl }
 own (TakeReply reply) = record { response = []; block = []; same = tt; is = refl }
+own (MakeTable handles algorithms) = record { response = []; block = []; same = tt; is = refl }
 own Restart = record { response = []; block = []; same = tt; is = refl }
 
 -- a call tells t and leaves the cells c
@@ -54,36 +57,41 @@ as-lent image marks call s {t} {c} f =
     let o = own call in
     subst (λ (x : Call). Does image marks x s t c) (o .is) (f (o .response) (o .block) (o .same))
 
--- a state that a history reaches has as many cells as the start, all places are empty, and no reply is awaited
-pub record Quiet (cells : List ℕ) (s : State) : Type 0 where
-  pub long : length (s .cells) ≡ length cells
+-- a state that a history reaches has as many cells as the start, all places are empty, no reply is awaited, and the table is the start's
+pub record Quiet (start s : State) : Type 0 where
+  pub long : length (s .cells) ≡ length (start .cells)
   pub rest : AtRest (cacheOf (s .context))
+  pub table : tableOf (s .context) ≡ tableOf (start .context)
 
--- so the tests on arrays, places and the awaited reply say the same there
-pub arrays-same : (image marks cells : List ℕ) (s : State) → Quiet cells s → wholeArrays image (s .cells) marks ≡ wholeArrays image cells marks
+-- so the tests on arrays, places, the awaited reply and the table say the same there
+pub arrays-same : (image marks : List ℕ) (start s : State) → Quiet start s → wholeArrays image (s .cells) marks ≡ wholeArrays image (start .cells) marks
 unfolding wholeArrays
-arrays-same image marks cells s q = rw (q .long)
+arrays-same image marks start s q = rw (q .long)
 
--- the start, at rest
-abbrev pub quiet : (cells : List ℕ) → State
-quiet cells = state cells (emptied [])
+-- as at the start, at rest
+abbrev pub quiet : (start : State) → State
+quiet start = withContext (emptied (start .context)) start
 
-pub places-same : (cells : List ℕ) (s : State) → Quiet cells s → occupied s ≡ occupied (quiet cells)
-places-same cells s q = q .rest .all-empty ∙ sym (emptied-rest [] .all-empty)
+pub places-same : (start s : State) → Quiet start s → occupied s ≡ occupied (quiet start)
+places-same start s q = q .rest .all-empty ∙ sym (emptied-rest (start .context) .all-empty)
 
-pub busy-same : (cells : List ℕ) (s : State) → Quiet cells s → busy (cacheOf (s .context)) ≡ busy (cacheOf (emptied []))
-busy-same cells s q = rest-idle (cacheOf (s .context)) (q .rest) ∙ sym (rest-idle (cacheOf (emptied [])) (emptied-rest []))
+pub busy-same : (start s : State) → Quiet start s → busy (cacheOf (s .context)) ≡ busy (cacheOf (emptied (start .context)))
+busy-same start s q =
+    rest-idle (cacheOf (s .context)) (q .rest) ∙ sym (rest-idle (cacheOf (emptied (start .context))) (emptied-rest (start .context)))
 
-module _ (image marks : List ℕ) (i : ℕ) (cells : List ℕ) where
+pub table-same : (start s : State) → Quiet start s → tableOf (s .context) ≡ tableOf (emptied (start .context))
+table-same start s q = q .table ∙ sym (emptied-table (start .context))
+
+module _ (image marks : List ℕ) (i : ℕ) (start : State) where
   -- nothing refuses an erasure before its run
   pub record Ready : Type 0 where
     pub good : mapGood image ≡ true
-    pub arrays : wholeArrays image cells marks ≡ true
+    pub arrays : wholeArrays image (start .cells) marks ≡ true
     pub partition : i < headerOf image .partitions
     pub may : zeroizable (entryOf image i) ≡ true
 
-  pub whole-at : Ready → (s : State) → Quiet cells s → WholeDrive image (s .cells)
-  whole-at ready s q = whole-by image (s .cells) marks (ready .good) (arrays-same image marks cells s q ∙ ready .arrays)
+  pub whole-at : Ready → (s : State) → Quiet start s → WholeDrive image (s .cells)
+  whole-at ready s q = whole-by image (s .cells) marks (ready .good) (arrays-same image marks start s q ∙ ready .arrays)
 
   -- the run of an attempt from a state
   abbrev pub runFrom : (k mask : ℕ) → State → Ran
@@ -93,13 +101,13 @@ module _ (image marks : List ℕ) (i : ℕ) (cells : List ℕ) where
   pub data Form (call : Call) : Type 0 where
     -- it is refused, and the cells stay
     refuses : (t : Told) → 1 ≤ refusal t → (refusal t ≡ 15 → ⊥)
-        → ((s : State) → Quiet cells s → DoesAll image marks call s t (s .cells))
+        → ((s : State) → Quiet start s → DoesAll image marks call s t (s .cells))
         → Form call
     -- it is a run, tells what the run answers, and is cut only if the call is
     runs : (k mask : ℕ) (tell : Answer → Told) → Ready
         → ((t : Tally) → refusal (tell (answerBy Stopped image i t)) ≡ 15)
-        → ((s : State) → Quiet cells s → Uncut image marks call s → runFrom k mask s .end ≡ CutEnd → ⊥)
-        → ((s : State) → Quiet cells s → DoesAll image marks call s (tell (ranOf image i (runFrom k mask s) .told)) (runFrom k mask s .tally .cells))
+        → ((s : State) → Quiet start s → Uncut image marks call s → runFrom k mask s .end ≡ CutEnd → ⊥)
+        → ((s : State) → Quiet start s → DoesAll image marks call s (tell (ranOf image i (runFrom k mask s) .told)) (runFrom k mask s .tally .cells))
         → Form call
 
   -- ---- the erasure and the cut erasure
@@ -109,16 +117,16 @@ module _ (image marks : List ℕ) (i : ℕ) (cells : List ℕ) where
     erasing s = eraseOf image marks i k mask s
 
     startTests : List (Bool × ℕ)
-    startTests = eraseTests image marks i (quiet cells)
+    startTests = eraseTests image marks i (quiet start)
 
-    by-tests : (s : State) → Quiet cells s → erasing s ≡ firstOf (refusing unburned s) startTests (burning image marks i k mask s)
+    by-tests : (s : State) → Quiet start s → erasing s ≡ firstOf (refusing unburned s) startTests (burning image marks i k mask s)
     unfolding eraseOf startTests
-    by-tests s q = rw (arrays-same image marks cells s q, places-same cells s q)
+    by-tests s q = rw (arrays-same image marks start s q, places-same start s q)
 
     -- of a call that is this erasure, and uncut only if the run is
     pub erase-form : (call : Call)
         → ((s : State) (response block : List ℕ) → Does image marks (withBuffers call response block) s (Erasing (erasing s .told)) (erasing s .after .cells))
-        → (Ready → (s : State) → Quiet cells s → told image marks call s ≡ Erasing (ranOf image i (runFrom k mask s) .told)
+        → (Ready → (s : State) → Quiet start s → told image marks call s ≡ Erasing (ranOf image i (runFrom k mask s) .told)
         → Uncut image marks call s → runFrom k mask s .end ≡ CutEnd → ⊥)
         → Form call
     unfolding startTests
@@ -134,7 +142,7 @@ module _ (image marks : List ℕ) (i : ℕ) (cells : List ℕ) where
         (λ (o : anyApplies startTests ≡ false).
         let none = none-accepts (λ n. n) 0 startTests o .none in
         let ready : Ready = record { good = not-false _ (none 0); arrays = not-false _ (none 1); partition = leb-false _ _ (none 2); may = not-false _ (none 3) } in
-        let did : (s : State) → Quiet cells s → DoesAll image marks call s (Erasing (ranOf image i (runFrom k mask s) .told)) (runFrom k mask s .tally .cells)
+        let did : (s : State) → Quiet start s → DoesAll image marks call s (Erasing (ranOf image i (runFrom k mask s) .told)) (runFrom k mask s .tally .cells)
         = λ s q response block l.
         (let e : erasing s ≡ burning image marks i k mask s = by-tests s q ∙ none-accepts (refusing unburned s) (burning image marks i k mask s) startTests o .is in
         (is s response block .0 ∙ ap (λ (o : Outcome Answer State). Erasing (o .told)) e, is s response block .1 ∙ ap (λ (o : Outcome Answer State). o .after .cells) e)) in
@@ -142,11 +150,11 @@ module _ (image marks : List ℕ) (i : ℕ) (cells : List ℕ) where
         (decided (anyApplies startTests))
 
 -- a cut erasure that is uncut is not cut: what is refused was not cut, and no run is cut past its order
-pub cut-uncut : (image marks : List ℕ) (i : ℕ) (cells : List ℕ) (k mask : ℕ) → Ready image marks i cells → (s : State) → Quiet cells s
+pub cut-uncut : (image marks : List ℕ) (i : ℕ) (start : State) (k mask : ℕ) → Ready image marks i start → (s : State) → Quiet start s
     → told image marks (EraseCut i k mask) s ≡ Erasing (ranOf image i (runOn image (s .cells) marks i k mask) .told) → Uncut image marks (EraseCut i k mask) s
     → runOn image (s .cells) marks i k mask .end ≡ CutEnd → ⊥
-cut-uncut image marks i cells k mask ready s q t u e =
+cut-uncut image marks i start k mask ready s q t u e =
     let r = runOn image (s .cells) marks i k mask in
     let told-cut : refusal (told image marks (EraseCut i k mask) s) ≡ 0 = ap refusal t ∙ ap (λ (end : End). refusal (Erasing (answerBy end image i (r .tally)))) e in
     ⊎-elim (λ (l : 1 ≤ refusal (told image marks (EraseCut i k mask) s)). omega arith)
-    (λ past. past-order image (s .cells) i (whole-at image marks i cells ready s q) (ready .partition) marks k mask past e) u
+    (λ past. past-order image (s .cells) i (whole-at image marks i start ready s q) (ready .partition) marks k mask past e) u

@@ -26,6 +26,9 @@ use Rattle.drive.specs.Laws.{active-same}
 use Rattle.cache.specs.Cache.{cacheOf, emptied}
 use Rattle.cache.specs.declared.Sought.the-variants.{Tag}
 use Rattle.cache.specs.Laws.{emptied-rest, has-occupied, tag-occupies, clearing-occupied, settled-occupied}
+use Rattle.handles.specs.declared.Answer.{Answer as TableAnswer}
+use Rattle.handles.specs.Handles.{tableOf}
+use Rattle.handles.specs.Laws.{making-elim}
 use Rattle.direct.specs.declared.Command.{Command}
 use Rattle.direct.specs.declared.Command.the-variants.{Read, Write, Zeroize}
 use Rattle.direct.specs.declared.Answer.{Answer}
@@ -33,21 +36,22 @@ use Rattle.direct.specs.declared.Answer.the-variants.{Refused}
 use Rattle.direct.specs.Direct.{cellOf, changesSlot, directTests, cellsAfter, carriedOut, directBy}
 use Rattle.direct.specs.Laws.{direct-at}
 use Rattle.codec.specs.declared.Command.{Command as Command′}
-use Rattle.codec.specs.declared.Command.the-variants.{Clkc, Klod, Kunl, Fers, Fsta, Unknown}
+use Rattle.codec.specs.declared.Command.the-variants.{Clkc, Klod, Kunl, Fers, Fsta, Ehdl, Rhpk, Unknown}
 use Rattle.codec.specs.Fields.{commandOf, known, requestFields, tagAt}
 use Rattle.erasure.specs.declared.Answer.{Answer as Erasure}
 use Rattle.erasure.specs.Erasure.{eraseTests, never, runOn, unburned, burning, eraseOf, uncutOf, isCut}
 use Rattle.erasure.specs.Parts.{Apart, run-apart}
 use Rattle.erasure.specs.Cuts.{whole-by}
 use Rattle.mailbox.specs.declared.effects.Effect.{Effect}
-use Rattle.mailbox.specs.Laws.{fers-orders}
+use Rattle.mailbox.specs.Laws.{fers-context}
 use Rattle.mailbox.specs.Told.{mailbox-elim}
-use Rattle.mailbox.specs.Mailbox.{partitionIn, accepted, ownTests, stateAfter}
+use Rattle.mailbox.specs.Mailbox.{rotationOf, partitionIn, accepted, ownTests, stateAfter}
 use Rattle.engine.specs.declared.EngineReply.{EngineReply}
 use Rattle.reply.specs.declared.Answer.{Answer as ReplyAnswer}
 use Rattle.reply.specs.Reply.{kindAfter}
 use Rattle.reply.specs.Laws.{reply-elim}
-use Rattle.history.specs.Calls.{occupied, Call, Direct, Erase, EraseCut, Mailbox, TakeReply, Restart, after, afterAll}
+use Rattle.history.specs.Calls.{occupied, Call, Direct, Erase, EraseCut, Mailbox, TakeReply, MakeTable, Restart, after, afterAll}
+use Rattle.history.specs.Kept.{rotated-cache, made-cache}
 
 -- ---- the claim
 
@@ -142,8 +146,11 @@ module _ (image marks : List ℕ) (s : State) (safe : Safe image s) where
       let tag = tagAt (requestFields Kunl) request in
       λ _. safe (has-occupied (cacheOf (s .context)) (Tag tag) (tag-occupies tag) (not-false _ (none 0)))
   accepted-safe Fers request good arrays k none =
-      rw (fers-orders (uncutOf image (s .cells) marks (partitionIn request) .told)) (run-safe (partitionIn request) never 0 good arrays (leb-false _ _ (none 0)) (none 2))
+      rw (fers-context (uncutOf image (s .cells) marks (partitionIn request) .told) (s .context)) (run-safe (partitionIn request) never 0 good arrays (leb-false _ _ (none 0)) (none 2))
   accepted-safe Fsta request good arrays k none = safe
+  accepted-safe Ehdl request good arrays k none = safe
+  accepted-safe Rhpk request good arrays k none =
+      let e = rotationOf (tableOf (s .context)) request in λ h. safe (rw (rotated-cache (e .rotates) (e .numbers .first) (s .context)) at h)
   accepted-safe Unknown request good arrays k none = absurd (false≢true k)
 
   mailbox-safe : (code : ℕ) (request response block : List ℕ) → Safe image (after image marks (Mailbox code request response block) s)
@@ -156,6 +163,12 @@ module _ (image marks : List ℕ) (s : State) (safe : Safe image s) where
       reply-elim reply (s .context) (λ (o : Outcome ReplyAnswer (List ℕ)). Safe image (withContext (o .after) s))
       (λ _. safe) (λ _ h. safe (settled-occupied (kindAfter reply (cacheOf (s .context) .awaited)) (s .context) h))
 
+  -- nor does a table that is made
+  table-safe : (handles algorithms : List ℕ) → Safe image (after image marks (MakeTable handles algorithms) s)
+  table-safe handles algorithms =
+      making-elim handles algorithms (s .context) (λ (o : Outcome TableAnswer (List ℕ)). Safe image (withContext (o .after) s))
+      safe (λ _ h. safe (rw (made-cache handles algorithms (s .context)) at h))
+
 -- ---- every list of calls
 
 -- one call keeps the claim
@@ -165,6 +178,7 @@ call-safe image marks (Erase i) s safe = erase-safe image marks s safe i never 0
 call-safe image marks (EraseCut i k mask) s safe = cut-safe image marks s safe i k mask
 call-safe image marks (Mailbox code request response block) s safe = mailbox-safe image marks s safe code request response block
 call-safe image marks (TakeReply reply) s safe = reply-safe image marks s safe reply
+call-safe image marks (MakeTable handles algorithms) s safe = table-safe image marks s safe handles algorithms
 call-safe image marks Restart s safe = none-safe image marks s safe s
 
 -- so does every list of calls

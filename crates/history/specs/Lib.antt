@@ -1,4 +1,5 @@
 pub mod Calls
+pub mod Kept
 pub mod Words
 pub mod Secrets
 pub mod HeldKeys

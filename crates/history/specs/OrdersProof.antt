@@ -9,67 +9,43 @@ use lib.Dec.{eqb}
 use lib.ListN.{length}
 use borrow.Author.Tests.{eq-eqb, ne-eqb, not-false}
 use Rattle.laws.specs.Tests.{decided, cond-keeps}
-use Rattle.laws.specs.Refusals.{first-elim, testAt}
-use Rattle.context.specs.State.{State, Outcome, refusing}
+use Rattle.laws.specs.Refusals.{testAt}
+use Rattle.context.specs.State.{State, Outcome}
 use Rattle.map.specs.Map.{mapGood}
 use Rattle.drive.specs.Drive.{wholeArrays}
 use Rattle.cache.specs.Cache.{cacheOf, lowestPlace, awaits, placeAt, AtRest}
 use Rattle.cache.specs.declared.Place.the-variants.{Waiting}
 use Rattle.cache.specs.declared.Sought.the-variants.{Empty, Tag}
 use Rattle.cache.specs.Laws.{has-tells}
-use Rattle.cache.specs.After.{place-held, place-waiting, is-occupied}
-use Rattle.word.specs.declared.Lookup.{Lookup}
-use Rattle.word.specs.declared.Lookup.the-variants.{Word as Found, Nothing as NoWord}
-use Rattle.word.specs.Word.{wordAt}
-use Rattle.direct.specs.declared.Command.{Command}
-use Rattle.direct.specs.declared.Answer.{Answer as DirectAnswer}
-use Rattle.direct.specs.declared.Answer.the-variants.{Refused as NotDone}
-use Rattle.direct.specs.Direct.{cellOf, directTests, carriedOut, directBy, directOf}
-use Rattle.direct.specs.Laws.{direct-at}
+use Rattle.cache.specs.After.{Long, store-long, place-held, place-waiting, is-occupied}
+use Rattle.handles.specs.declared.Answer.{Answer as TableAnswer}
+use Rattle.handles.specs.Handles.{tableOf}
+use Rattle.handles.specs.Making.{made}
+use Rattle.handles.specs.Laws.{making-elim}
+use Rattle.handles.specs.After.{rotated-keeps, made-keeps}
 use Rattle.erasure.specs.declared.Answer.{Answer}
 use Rattle.erasure.specs.declared.Answer.the-variants.{Ended, Cut, Refused as NotErased}
-use Rattle.erasure.specs.Erasure.{eraseTests, never, unburned, burning, eraseOf, isCut, uncutOf}
+use Rattle.erasure.specs.Erasure.{never, eraseOf, isCut, uncutOf}
 use Rattle.engine.specs.declared.Order.the-variants.{Nothing}
 use Rattle.engine.specs.declared.EngineReply.{EngineReply}
 use Rattle.engine.specs.declared.EngineReply.the-variants.{Done}
 use Rattle.codec.specs.declared.Command.{Command as Code}
-use Rattle.codec.specs.declared.Command.the-variants.{Clkc, Klod, Kunl, Fers, Fsta, Unknown}
+use Rattle.codec.specs.declared.Command.the-variants.{Clkc, Klod, Kunl, Fers, Fsta, Ehdl, Rhpk, Unknown}
 use Rattle.codec.specs.Fields.{commandOf, known, Cmd-timeout, requestFields, numberAt, tagAt}
 use Rattle.mailbox.specs.declared.effects.Effect.{Effect}
 use Rattle.mailbox.specs.declared.Reply.{Reply}
 use Rattle.mailbox.specs.declared.Reply.the-variants.{Refused, Accepted}
 use Rattle.mailbox.specs.Told.{mailbox-elim}
-use Rattle.mailbox.specs.Mailbox.{refused, fersOf, partitionIn, accepted, ownTests, contextAfter, replyOf}
+use Rattle.mailbox.specs.Mailbox.{refused, fersOf, rotationOf, partitionIn, accepted, ownTests, contextAfter, replyOf}
 use Rattle.reply.specs.declared.Answer.{Answer as ReplyAnswer}
 use Rattle.reply.specs.Laws.{reply-elim, reply-taken}
-use Rattle.history.specs.Calls.{Call, Direct, Erase, EraseCut, Mailbox, TakeReply, Restart, Taking, orderIn, told, after, afterAll}
+use Rattle.history.specs.Calls.{Call, Direct, Erase, EraseCut, Mailbox, TakeReply, MakeTable, Restart, Taking, orderIn, told, after, afterAll}
+use Rattle.history.specs.Kept.{direct-leaves, erase-leaves, rotated-cache, made-cache}
 use Rattle.history.specs.Orders.{Given, Answered, opened, closed, takenTold, ordersAfter, ordersAll, openIn, EmptyContext, Orderly}
-use Rattle.history.specs.Standing.{Standing, idle, awaited, Sound, sound-start, sound-emptied, sound-load, sound-unload, sound-clear, replied-to}
+use Rattle.history.specs.Standing.{Standing, idle, awaited, Sound, sound-start, sound-cache, sound-emptied, sound-load, sound-unload, sound-clear, replied-to}
 use Rattle.history.specs.Settled.{sound-reply, clear-done}
 
--- ---- calls that leave the context
-
 module _ (image marks : List ℕ) (s : State) where
-  by-lookup : (command : Command) (found : Lookup) → directBy found image marks command s .after .context ≡ s .context
-  unfolding carriedOut
-  by-lookup command NoWord =
-      first-elim (λ (o : Outcome DirectAnswer State). o .after .context ≡ s .context) (refusing NotDone s) (directTests NoWord command image marks s)
-      (carriedOut NoWord command image marks s) (λ n _. refl) (λ none. refl)
-  by-lookup command (Found i role wide) =
-      first-elim (λ (o : Outcome DirectAnswer State). o .after .context ≡ s .context) (refusing NotDone s) (directTests (Found i role wide) command image marks s)
-      (carriedOut (Found i role wide) command image marks s) (λ n _. refl) (λ none. refl)
-
-  direct-leaves : (command : Command) → directOf image marks command s .after .context ≡ s .context
-  direct-leaves command =
-      subst (λ (o : Outcome DirectAnswer State). o .after .context ≡ s .context) (sym (direct-at image marks command s refl))
-      (by-lookup command (wordAt image (cellOf command)))
-
-  erase-leaves : (i k mask : ℕ) → eraseOf image marks i k mask s .after .context ≡ s .context
-  unfolding eraseOf
-  erase-leaves i k mask =
-      first-elim (λ (o : Outcome Answer State). o .after .context ≡ s .context) (refusing unburned s) (eraseTests image marks i s) (burning image marks i k mask s)
-      (λ n _. refl) (λ none. refl)
-
   -- ---- each call
 
   module _ (orders : List Given) (sound : Sound orders (s .context)) where
@@ -102,6 +78,11 @@ module _ (image marks : List ℕ) (s : State) where
         (numberAt (requestFields Kunl) Cmd-timeout request) tag (found .0) (found .1)
     accepted-sound Fers request good arrays k none = fers-sound (uncutOf image (s .cells) marks (partitionIn request) .told)
     accepted-sound Fsta request good arrays k none = sound
+    accepted-sound Ehdl request good arrays k none = sound
+    accepted-sound Rhpk request good arrays k none =
+        let e = rotationOf (tableOf (s .context)) request in
+        sound-cache orders (s .context) (contextAfter e (s .context)) (rotated-cache (e .rotates) (e .numbers .first) (s .context))
+        (rotated-keeps Long store-long (s .context) (sound .long) (e .rotates) (e .numbers .first)) sound
     accepted-sound Unknown request good arrays k none = absurd (false≢true k)
 
     -- so every call
@@ -113,7 +94,7 @@ module _ (image marks : List ℕ) (s : State) where
         let o = eraseOf image marks i k mask s in
         ⊎-elim
         (λ (y : isCut (o .told) ≡ true). rw y (sound-emptied orders (o .after .context)))
-        (λ (n : isCut (o .told) ≡ false). rw n (subst (Sound orders) (sym (erase-leaves i k mask)) sound))
+        (λ (n : isCut (o .told) ≡ false). rw n (subst (Sound orders) (sym (erase-leaves image marks s i k mask)) sound))
         (decided (isCut (o .told)))
 
     reply-kept : (reply : EngineReply) → Kept (TakeReply reply)
@@ -122,13 +103,20 @@ module _ (image marks : List ℕ) (s : State) where
         (λ (o : Outcome ReplyAnswer (List ℕ)). Sound (cond (takenTold (Taking (o .told))) (closed (Answered reply) orders) orders) (o .after))
         (λ _. sound) (λ some. sound-reply reply orders (s .context) sound some)
 
+    table-kept : (handles algorithms : List ℕ) → Kept (MakeTable handles algorithms)
+    table-kept handles algorithms =
+        making-elim handles algorithms (s .context) (λ (o : Outcome TableAnswer (List ℕ)). Sound orders (o .after)) sound
+        (λ _. sound-cache orders (s .context) (made handles algorithms (s .context)) (made-cache handles algorithms (s .context))
+        (made-keeps Long store-long (s .context) (sound .long) handles algorithms) sound)
+
     pub call-kept : (call : Call) → Kept call
-    call-kept (Direct command) = subst (Sound orders) (sym (direct-leaves command)) sound
-    call-kept (Erase i) = subst (Sound orders) (sym (erase-leaves i never 0)) sound
+    call-kept (Direct command) = subst (Sound orders) (sym (direct-leaves image marks s command)) sound
+    call-kept (Erase i) = subst (Sound orders) (sym (erase-leaves image marks s i never 0)) sound
     call-kept (EraseCut i k mask) = cut-kept i k mask
     call-kept (Mailbox code request response block) =
         mailbox-elim image marks code request (length response) (length block) s DoneSound (λ n _ _. refused-sound n) (accepted-sound (commandOf code) request)
     call-kept (TakeReply reply) = reply-kept reply
+    call-kept (MakeTable handles algorithms) = table-kept handles algorithms
     call-kept Restart = sound-emptied orders (s .context)
 
 -- ---- every list of calls

@@ -7,7 +7,7 @@ use mathlib.Core.Bool.{Bool}
 use mathlib.Core.List.{List}
 use native.Mathlib.Omega.{arith}
 use lib.ListN.{length, getD}
-use Rattle.context.specs.State.{State, state, withCells}
+use Rattle.context.specs.State.{State, withCells}
 use Rattle.map.specs.Map.{headerOf, entryOf, endBefore, software}
 use Rattle.map.specs.Laws.{EntryRules, map-entry}
 use Rattle.drive.specs.Drive.{Whole as WholeDrive, cellsOf}
@@ -24,43 +24,46 @@ use Rattle.erasure.specs.Parts.{Outside, run-part, run-outside, run-length, sam
 use Rattle.erasure.specs.Cuts.{whole-by}
 use Rattle.history.specs.Refused.{refused-unchanged}
 use Rattle.history.specs.Calls.{Call, Told, told, refusal, after}
-use Rattle.history.specs.Demand3.{Attempt, Uncut, Alone, callAlone}
+use Rattle.history.specs.Demand3.{Attempt, Uncut, Alone, callAlone, startAlone}
 use Rattle.history.specs.Forms.{as-lent, Quiet, Ready, whole-at, runFrom, Form, refuses, runs}
-use Rattle.history.specs.Attempts.{form, rest-after}
+use Rattle.history.specs.Attempts.{form, Rested, rest-after}
 
 ran-is : (r q : Ran) → r .end ≡ q .end → r .tally .cells ≡ q .tally .cells → r .tally .burns ≡ q .tally .burns → r ≡ q
 ran-is r q e c b = ap₂ ran e (ap₂ tallyOf c b)
 
-module _ (image marks : List ℕ) (i : ℕ) (cells : List ℕ) where
+module _ (image marks : List ℕ) (i : ℕ) (start : State) where
+  abbrev cells : List ℕ
+  cells = start .cells
+
   -- the partition's cells of an array
   abbrev pub part : (array : List ℕ) → List ℕ
   part array = cellsOf image array i
 
   -- its cells are safe, all others as at the start; and all of them, where nothing gets past the tests
   pub record Reached (s : State) : Type 0 where
-    pub quiet : Quiet cells s
+    pub quiet : Quiet start s
     pub outside : (j : ℕ) → Outside image i j → getD (s .cells) j 0 ≡ getD cells j 0
     pub safe : Safe (part marks) (part cells) (part (s .cells))
-    pub still : (Ready image marks i cells → ⊥) → s .cells ≡ cells
+    pub still : (Ready image marks i start → ⊥) → s .cells ≡ cells
 
-  pub reached-start : (start : State) → start .cells ≡ cells → AtRest (cacheOf (start .context)) → Reached start
-  reached-start start e h = record {
-    quiet = record { long = ap length e; rest = h };
-    outside = λ j o. ap (λ (c : List ℕ). getD c j 0) e;
-    safe = rw e (safe-start (part marks) (part cells));
-    still = λ unready. e;
+  pub reached-start : AtRest (cacheOf (start .context)) → Reached start
+  reached-start h = record {
+    quiet = record { long = refl; rest = h; table = refl };
+    outside = λ j o. refl;
+    safe = safe-start (part marks) (part cells);
+    still = λ unready. refl;
   }
 
-  pub reached-same : (s t : State) → Reached s → t .cells ≡ s .cells → AtRest (cacheOf (t .context)) → Reached t
+  pub reached-same : (s t : State) → Reached s → t .cells ≡ s .cells → Rested (s .context) (t .context) → Reached t
   reached-same s t r e h = record {
-    quiet = record { long = ap length e ∙ r .quiet .long; rest = h };
+    quiet = record { long = ap length e ∙ r .quiet .long; rest = h .rest; table = h .table ∙ r .quiet .table };
     outside = λ j o. ap (λ (c : List ℕ). getD c j 0) e ∙ r .outside j o;
     safe = rw e (r .safe);
     still = λ unready. e ∙ r .still unready;
   }
 
   -- a run from there
-  module _ (ready : Ready image marks i cells) (k mask : ℕ) (s : State) (r : Reached s) where
+  module _ (ready : Ready image marks i start) (k mask : ℕ) (s : State) (r : Reached s) where
     abbrev software′ : Bool
     software′ = software (entryOf image i)
 
@@ -68,7 +71,7 @@ module _ (image marks : List ℕ) (i : ℕ) (cells : List ℕ) where
     runPart array = run (part marks) software′ k mask (part array)
 
     here : WholeDrive image (s .cells)
-    here = whole-at image marks i cells ready s (r .quiet)
+    here = whole-at image marks i start ready s (r .quiet)
 
     pub there : WholeDrive image cells
     there = whole-by image cells marks (ready .good) (ready .arrays)
@@ -85,9 +88,9 @@ module _ (image marks : List ℕ) (i : ℕ) (cells : List ℕ) where
     part-after : (c : List ℕ) → WholeDrive image c → part (runOn image c marks i k mask .tally .cells) ≡ runPart c .tally .cells
     part-after c w = run-part image c marks i k mask w (ready .partition)
 
-    reached-run : (t : State) → t .cells ≡ runFrom image marks i cells k mask s .tally .cells → AtRest (cacheOf (t .context)) → Reached t
+    reached-run : (t : State) → t .cells ≡ runFrom image marks i start k mask s .tally .cells → Rested (s .context) (t .context) → Reached t
     reached-run t e h = record {
-      quiet = record { long = ap length e ∙ run-length image (s .cells) marks i k mask here (ready .partition) ∙ r .quiet .long; rest = h };
+      quiet = record { long = ap length e ∙ run-length image (s .cells) marks i k mask here (ready .partition) ∙ r .quiet .long; rest = h .rest; table = h .table ∙ r .quiet .table };
       outside = λ j o. ap (λ (c : List ℕ). getD c j 0) e ∙ run-outside image (s .cells) marks i k mask here (ready .partition) j o ∙ r .outside j o;
       safe = rw (e, part-after (s .cells) here) (safe-run (r .safe) four even software′ k mask);
       still = λ unready. absurd (unready ready);
@@ -102,7 +105,7 @@ module _ (image marks : List ℕ) (i : ℕ) (cells : List ℕ) where
     unfolding runOn
     burns-is c = refl
 
-    same-run : (runFrom image marks i cells k mask s .end ≡ CutEnd → ⊥) → runOn image cells marks i k mask ≡ runFrom image marks i cells k mask s
+    same-run : (runFrom image marks i start k mask s .end ≡ CutEnd → ⊥) → runOn image cells marks i k mask ≡ runFrom image marks i start k mask s
     same-run uncut =
         let alike = run-alike (r .safe) four even software′ k mask in
         let same = run-cells (r .safe) four even software′ k mask (λ e. uncut (end-is (s .cells) ∙ e)) in
@@ -120,20 +123,20 @@ module _ (image marks : List ℕ) (i : ℕ) (cells : List ℕ) where
 
   module _ (call : Call) (s : State) (r : Reached s) (a : Attempt image marks i call s) where
     pub reached-attempt : Reached (after image marks call s)
-    reached-attempt = by (form image marks i cells call s (r .quiet) a)
+    reached-attempt = by (form image marks i start call s (r .quiet) a)
       where
-        rest-now : AtRest (cacheOf (after image marks call s .context))
+        rest-now : Rested (s .context) (after image marks call s .context)
         rest-now = rest-after image marks i call s a (r .quiet .rest)
 
-        by : Form image marks i cells call → Reached (after image marks call s)
+        by : Form image marks i start call → Reached (after image marks call s)
         by (refuses t l o f) = reached-same s (after image marks call s) r (as-lent image marks call s (f s (r .quiet)) .1) rest-now
         by (runs k mask tell ready st c f) = reached-run ready k mask s r (after image marks call s) (as-lent image marks call s (f s (r .quiet)) .1) rest-now
 
     -- full cells stay full
     pub filled-attempt : Filled (s .cells) → Filled (after image marks call s .cells)
-    filled-attempt h j l = by (form image marks i cells call s (r .quiet) a)
+    filled-attempt h j l = by (form image marks i start call s (r .quiet) a)
       where
-        by : Form image marks i cells call → getD (part (after image marks call s .cells)) j 0 ≡ full (getD (part marks) j 0) (getD (part cells) j 0)
+        by : Form image marks i start call → getD (part (after image marks call s .cells)) j 0 ≡ full (getD (part marks) j 0) (getD (part cells) j 0)
         by (refuses t _ _ f) = rw (as-lent image marks call s (f s (r .quiet)) .1) (h j l)
         by (runs k mask tell ready st c f) =
             rw (as-lent image marks call s (f s (r .quiet)) .1, part-after ready k mask s r (s .cells) (here ready k mask s r))
@@ -147,55 +150,55 @@ module _ (image marks : List ℕ) (i : ℕ) (cells : List ℕ) where
     went-through tell t st CutEnd u z = absurd (u refl)
 
     pub erased-attempt : Uncut image marks call s → refusal (told image marks call s) ≡ 0 → Filled (after image marks call s .cells)
-    erased-attempt u z j l = by (form image marks i cells call s (r .quiet) a)
+    erased-attempt u z j l = by (form image marks i start call s (r .quiet) a)
       where
-        by : Form image marks i cells call → getD (part (after image marks call s .cells)) j 0 ≡ full (getD (part marks) j 0) (getD (part cells) j 0)
+        by : Form image marks i start call → getD (part (after image marks call s .cells)) j 0 ≡ full (getD (part marks) j 0) (getD (part cells) j 0)
         by (refuses t m o f) = let same = ap refusal (as-lent image marks call s (f s (r .quiet)) .0) in absurd (omega arith)
         by (runs k mask tell ready st c f) =
             let did = as-lent image marks call s (f s (r .quiet)) in
-            let x = runFrom image marks i cells k mask s in
+            let x = runFrom image marks i start k mask s in
             let ended = went-through tell (x .tally) (st (x .tally)) (x .end) (c s (r .quiet) u) (ap refusal (sym (did .0)) ∙ z) in
             rw (did .1, part-after ready k mask s r (s .cells) (here ready k mask s r))
             (run-full (r .safe) (four ready k mask s r) (even ready k mask s r) (software (entryOf image i)) k mask
             (sym (end-is ready k mask s r (s .cells)) ∙ ended) j (rw (part-long image cells i (there ready k mask s r) (ready .partition)) l))
 
     -- where it is uncut it answers as from the start, and, if it is a run, leaves the same
-    module _ (u : Uncut image marks call s) (alone : Alone call) where
-      -- from the start, with any context at rest
-      abbrev start : State
-      start = state cells (alone .context)
+    module _ (u : Uncut image marks call s) (alone : Alone start call) where
+      -- from the start, with any context at rest that has its table
+      abbrev begun : State
+      begun = startAlone start alone
 
-      start-quiet : Quiet cells start
-      start-quiet = record { long = refl; rest = alone .at-rest }
+      begun-quiet : Quiet start begun
+      begun-quiet = record { long = refl; rest = alone .at-rest; table = alone .same-table }
 
-      pub alone-answer : told image marks (callAlone call alone) start ≡ told image marks call s
-      alone-answer = by (form image marks i cells call s (r .quiet) a)
+      pub alone-answer : told image marks (callAlone call alone) begun ≡ told image marks call s
+      alone-answer = by (form image marks i start call s (r .quiet) a)
         where
-          by : Form image marks i cells call → told image marks (callAlone call alone) start ≡ told image marks call s
-          by (refuses t _ _ f) = f start start-quiet (alone .response) (alone .block) (alone .same) .0 ∙ sym (as-lent image marks call s (f s (r .quiet)) .0)
+          by : Form image marks i start call → told image marks (callAlone call alone) begun ≡ told image marks call s
+          by (refuses t _ _ f) = f begun begun-quiet (alone .response) (alone .block) (alone .same) .0 ∙ sym (as-lent image marks call s (f s (r .quiet)) .0)
           by (runs k mask tell ready st c f) =
-              f start start-quiet (alone .response) (alone .block) (alone .same) .0
+              f begun begun-quiet (alone .response) (alone .block) (alone .same) .0
               ∙ ap (λ (x : Ran). tell (ranOf image i x .told)) (same-run ready k mask s r (c s (r .quiet) u))
               ∙ sym (as-lent image marks call s (f s (r .quiet)) .0)
 
       pub alone-cells : (refusal (told image marks call s) ≡ 0) ⊎ (refusal (told image marks call s) ≡ 15)
-          → after image marks (callAlone call alone) start .cells ≡ after image marks call s .cells
-      alone-cells z = by (form image marks i cells call s (r .quiet) a)
+          → after image marks (callAlone call alone) begun .cells ≡ after image marks call s .cells
+      alone-cells z = by (form image marks i start call s (r .quiet) a)
         where
-          by : Form image marks i cells call → after image marks (callAlone call alone) start .cells ≡ after image marks call s .cells
+          by : Form image marks i start call → after image marks (callAlone call alone) begun .cells ≡ after image marks call s .cells
           by (refuses t l o f) =
               let same = ap refusal (as-lent image marks call s (f s (r .quiet)) .0) in
               absurd (⊎-elim (λ (e : refusal (told image marks call s) ≡ 0). omega arith) (λ (e : refusal (told image marks call s) ≡ 15). o (sym same ∙ e)) z)
           by (runs k mask tell ready st c f) =
-              f start start-quiet (alone .response) (alone .block) (alone .same) .1
+              f begun begun-quiet (alone .response) (alone .block) (alone .same) .1
               ∙ ap (λ (x : Ran). x .tally .cells) (same-run ready k mask s r (c s (r .quiet) u))
               ∙ sym (as-lent image marks call s (f s (r .quiet)) .1)
 
     -- where nothing gets past the tests, it is refused and nothing changes
-    pub refused-attempt : (Ready image marks i cells → ⊥) → (1 ≤ refusal (told image marks call s)) × (after image marks call s ≡ withCells cells s)
-    refused-attempt unready = by (form image marks i cells call s (r .quiet) a)
+    pub refused-attempt : (Ready image marks i start → ⊥) → (1 ≤ refusal (told image marks call s)) × (after image marks call s ≡ withCells cells s)
+    refused-attempt unready = by (form image marks i start call s (r .quiet) a)
       where
-        by : Form image marks i cells call → (1 ≤ refusal (told image marks call s)) × (after image marks call s ≡ withCells cells s)
+        by : Form image marks i start call → (1 ≤ refusal (told image marks call s)) × (after image marks call s ≡ withCells cells s)
         by (refuses t l o f) =
             let same = ap refusal (as-lent image marks call s (f s (r .quiet)) .0) in
             let refused : 1 ≤ refusal (told image marks call s) = omega arith in

@@ -38,20 +38,20 @@ abbrev request : List ℕ
 request = bytes4 0xFFFF_FDF8 ++ bytes4 0 ++ bytes4 1000
 
 abbrev pub clkc : Call
-clkc = Mailbox (codeOf Clkc) request (replicate 20 0) (replicate 128 0)
+clkc = Mailbox (codeOf Clkc) request (replicate 40 0) (replicate 128 0)
 
 -- any reply, which is refused where none is awaited; CLKC; done
 abbrev pub recovering : EngineReply → List Call
 recovering reply = TakeReply reply ∷ clkc ∷ TakeReply Done ∷ []
 
 -- on a drive that 1 and 2 do not refuse CLKC is carried out where nothing is awaited and no place waits
-clkc-clears : (image marks : List ℕ) (s : State) → mapGood image ≡ true → wholeArrays image (s .cells) marks ≡ true → busy (cacheOf (s .context)) ≡ false
-    → after image marks clkc s .context ≡ clearing (s .context)
+clkc-clears : (image marks : List ℕ) (s : State) → mapGood image ≡ true → wholeArrays image (s .cells) marks ≡ true
+    → hasTable (tableOf (s .context)) ≡ true → busy (cacheOf (s .context)) ≡ false → after image marks clkc s .context ≡ clearing (s .context)
 unfolding doneOf requestTests u32At u16At
-clkc-clears image marks s good arrays still =
+clkc-clears image marks s good arrays table still =
     ap (λ (d : Outcome Effect (List ℕ)). contextAfter (d .told) (s .context))
-    (sym (past-all (refusing refused (s .cells)) (accepted Clkc image marks request s) (mailboxTests image marks (codeOf Clkc) request 20 128 s)
-    (ap not good, (ap not arrays, (refl, (refl, (refl, (refl, (refl, (still, (refl, tt)))))))))))
+    (sym (past-all (refusing refused (s .cells)) (accepted Clkc image marks request s) (mailboxTests image marks (codeOf Clkc) request 40 128 s)
+    (ap not good, (ap not arrays, (ap not table, (refl, (refl, (refl, (refl, (still, (refl, tt)))))))))))
 
 -- where none is awaited, no place waits
 idle-still : (context : List ℕ) {orders : List Given} → Standing context orders → awaits (cacheOf context) ≡ false → busy (cacheOf context) ≡ false

@@ -19,6 +19,7 @@ use Rattle.partition.specs.Partition.{shortAt, marked, zeroCell, stateOf, lowes
 use Rattle.burns.specs.Run.{wordsFrom, order, goesOn, stopsAfter, burnsOf}
 use Rattle.context.specs.State.{State, state}
 use Rattle.cache.specs.Cache.{cacheOf, isAt, placed, turnedBelow, emptied}
+use Rattle.handles.specs.Handles.{tableOf}
 use Rattle.drive.specs.Drive.{wholeArrays, surveyAt, slotAt, openSlot, activeSlot, available}
 use Rattle.engine.specs.declared.Order.the-variants.{Nothing, Clear, Load}
 use Rattle.engine.specs.declared.EngineReply.the-variants.{Done}
@@ -33,12 +34,13 @@ use Rattle.mailbox.specs.Mailbox.{doneOf}
 use Rattle.reply.specs.Reply.{takingOf}
 use Rattle.history.specs.Calls.{Call, Erase, EraseCut, Mailbox, TakeReply, Told, Erasing, Replying, told, after, afterAll}
 
--- "P = 2, C = 12, B = 60, E = 8 .. Cell 0 is 1, all others 0, no stuck marks, cache empty", and no reply awaited
+-- "P = 2, C = 12, B = 60, E = 8 .. Cell 0 is 1, all others 0, no stuck marks, cache empty", no reply awaited, and by request P6 with a table,
+-- of one handle: 7, with algorithm 1
 abbrev small : List ℕ
 small = image 2 12 60 8 [] two
 
 abbrev start : State
-start = state (1 ∷ replicate 11 0) (replicate 33 0)
+start = state (1 ∷ replicate 11 0) (replicate 33 0 ++ (1 ∷ 0x1_0000_0007 ∷ 0 ∷ 0 ∷ 7 ∷ []))
 
 abbrev noMarks : List ℕ
 noMarks = replicate 12 0
@@ -47,9 +49,9 @@ noMarks = replicate 12 0
 abbrev stuck : (at mark : ℕ) → List ℕ
 stuck at mark = set noMarks at mark
 
--- the requests, with the chksum that the document gives or that follows; a buffer of 20 nines and a block of sevens
+-- the requests, with the chksum that the document gives or that follows; a buffer of 40 nines and a block of sevens
 abbrev mailbox : (code : ℕ) (request : List ℕ) → Call
-mailbox code request = Mailbox code request (replicate 20 9) (replicate 128 7)
+mailbox code request = Mailbox code request (replicate 40 9) (replicate 128 7)
 
 abbrev fsta : Call
 fsta = mailbox (codeOf Fsta) (bytes4 0xFFFF_FED2 ++ bytes4 0)
@@ -136,7 +138,7 @@ cases =
 -- every call shows what the document says
 table : map (λ (c : Seen × Seen). c .0) cases ≡ map (λ (c : Seen × Seen). c .1) cases
 unfolding cases doneOf requestTests mapGood wholeArrays every headerGood fillerGood entryGood placeGood allBelow u16At u32At activeSlot openSlot slotAt surveyAt
-    stateOf marked shortAt zeroCell countBelow firstFrom onesIn cacheOf isAt emptied runOn eraseOf burnsOf order wordsFrom stopsAfter goesOn burnWord burnCell
+    stateOf marked shortAt zeroCell countBelow firstFrom onesIn cacheOf tableOf isAt emptied runOn eraseOf burnsOf order wordsFrom stopsAfter goesOn burnWord burnCell
     lowestShort
 table = refl
 
@@ -166,5 +168,5 @@ case-10 :
     tells [] 1 ∷ tells (loads 15) 16 ∷ tells (loads 16) 17 ∷ tells (loads 16) 4 ∷ tells (loads 16 ++ (unload 4 ∷ TakeReply Done ∷ [])) 17 ∷ []
     ≡ took 0 0 ∷ took 0xFFFF_FFF1 15 ∷ Replying (Refused 13) [] ∷ Replying (Refused 12) [] ∷ took 0xFFFF_FFFD 3 ∷ []
 unfolding doneOf requestTests mapGood wholeArrays every headerGood fillerGood entryGood placeGood allBelow u16At u32At activeSlot openSlot slotAt surveyAt
-    stateOf marked shortAt zeroCell countBelow firstFrom onesIn cacheOf isAt placed turnedBelow takingOf
+    stateOf marked shortAt zeroCell countBelow firstFrom onesIn cacheOf tableOf isAt placed turnedBelow takingOf
 case-10 = refl

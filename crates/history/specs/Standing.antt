@@ -118,6 +118,21 @@ sound-start context e =
     rested context (e .long) (λ k l. not-occupied (cacheOf context) k (has-none (cacheOf context) Occupied (e .at-rest .all-empty) k l))
     (none-by context (e .at-rest .none-awaited)) [] refl
 
+-- what leaves the cache keeps it
+waits-same : (order : Order) (context after : List ℕ) → cacheOf after ≡ cacheOf context → Waits order context → Waits order after
+waits-same Nothing context after e w = w
+waits-same (Clear timeout) context after e w = rw e w
+waits-same (Load place timeout) context after e w = rw e w
+waits-same (Unload place timeout) context after e w = rw e w
+
+standing-same : {orders : List Given} (context after : List ℕ) → cacheOf after ≡ cacheOf context → Standing context orders → Standing after orders
+standing-same context after e (idle a none z) = idle (rw e a) (rw e none) z
+standing-same context after e (awaited order before a waits z) = awaited order before (rw e a) (waits-same order context after e waits) z
+
+pub sound-cache : (orders : List Given) (context after : List ℕ) → cacheOf after ≡ cacheOf context → Long after → Sound orders context → Sound orders after
+sound-cache orders context after e long sound =
+    record { long = long; apart = rw e (sound .apart); held-by = rw e (sound .held-by); standing = standing-same context after e (sound .standing) }
+
 -- what a cut or a restart leaves is such a context
 pub restart-empty : (context : List ℕ) → EmptyContext (emptied context)
 restart-empty context = record { at-rest = emptied-rest context; long = emptied-long context }

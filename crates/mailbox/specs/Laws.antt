@@ -60,6 +60,12 @@ fers-orders (Ended short first burns) = refl
 fers-orders (Cut burns) = refl
 fers-orders (NotErased number burns) = refl
 
+-- so it leaves the context
+pub fers-context : (answer : Answer) (context : List ℕ) → contextAfter (fersOf answer) context ≡ context
+fers-context (Ended short first burns) context = refl
+fers-context (Cut burns) context = refl
+fers-context (NotErased number burns) context = refl
+
 -- ---- what a call does, by where its judging ends
 
 module _ (image marks : List ℕ) (code : ℕ) (request : List ℕ) (room block : ℕ) (s : State) where
