@@ -7,7 +7,7 @@ use mathlib.Core.List.{List, [], _∷_}
 use native.Mathlib.Omega.{arith}
 use native.Mathlib.Nat.{not-suc-le-zero, le-of-suc-le-suc}
 use lib.Dec.{ltb}
-use lib.ListN.{length, getD, set, take, drop, length-set, length-take}
+use lib.ListN.{length, getD, set, take, drop, length-set, length-drop}
 use lib.Seq.{getD-set-same, getD-set-other, getD-drop, drop-drop}
 use borrow.Author.Tests.{eqb-true, eq-eqb, ne-eqb, not-false}
 use Rattle.laws.specs.Tests.{cond-keeps}
@@ -26,6 +26,9 @@ entry-algorithm handle algorithm l = omega arith
 
 -- ---- what is kept
 
+pub store-long : (context : List ℕ) (i v : ℕ) → countAt ≤ i → Long context → Long (set context i v)
+store-long context i v _ long = rw (length-set context i v) long
+
 -- the table lies in the words from its count on
 pub table-behind : (before after : List ℕ) → drop countAt after ≡ drop countAt before → tableOf after ≡ tableOf before
 unfolding tableOf
@@ -35,6 +38,10 @@ table-behind before after e =
     let entries : part entriesAt most after ≡ part entriesAt most before
     = ap (take most) (sym (drop-drop 1 countAt after) ∙ ap (drop 1) e ∙ drop-drop 1 countAt before) in
     rw (word 0, word 4, entries)
+
+-- and with them it is there
+pub long-behind : (before after : List ℕ) → drop countAt after ≡ drop countAt before → Long before → Long after
+long-behind before after e long = omega (arith, length-drop countAt after, length-drop countAt before, ap length e)
 
 -- what every store from there on keeps, a rotation keeps, and a table that is made
 module _ (P : List ℕ → Type 0) (keeps : (context : List ℕ) (i v : ℕ) → countAt ≤ i → P context → P (set context i v)) (context : List ℕ) (p : P context) where

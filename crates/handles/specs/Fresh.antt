@@ -16,7 +16,7 @@ use Rattle.context.specs.Context.{countAt, entriesAt, greatestAt}
 use Rattle.handles.specs.Handles.{most, countGood, entryOf, handleOf, algorithmOf, Table, Long, tableOf, handleAt, algorithmAt, handlesIn}
 use Rattle.handles.specs.Making.{isAmong, distinct, greater, largest, Fresh, entryFrom, made}
 use Rattle.handles.specs.Laws.{count-read, greatest-read, entry-read, good-most}
-use Rattle.handles.specs.After.{entry-handle, entry-algorithm, made-keeps}
+use Rattle.handles.specs.After.{store-long, entry-handle, entry-algorithm, made-keeps}
 
 -- ---- numbers
 
@@ -25,9 +25,15 @@ or-true : (b : Bool) {a : Bool} → a ≡ true → (b || a) ≡ true
 or-true true e = refl
 or-true false e = e
 
+pub among-here : (number : ℕ) (numbers : List ℕ) → isAmong number (number ∷ numbers) ≡ true
+among-here number numbers = rw (eq-eqb number number refl)
+
+pub among-after : (number n : ℕ) (numbers : List ℕ) → isAmong n numbers ≡ true → isAmong n (number ∷ numbers) ≡ true
+among-after number n numbers a = or-true (eqb n number) a
+
 pub among-at : (numbers : List ℕ) (k : ℕ) → k < length numbers → isAmong (getD numbers k 0) numbers ≡ true
 among-at [] k l = absurd (not-suc-le-zero l)
-among-at (n ∷ numbers) zero l = rw (eq-eqb n n refl)
+among-at (n ∷ numbers) zero l = among-here n numbers
 among-at (n ∷ numbers) (suc k) l = or-true (eqb (getD numbers k 0) n) (among-at numbers k (le-of-suc-le-suc l))
 
 pub among-tells : (number : ℕ) (numbers : List ℕ) → isAmong number numbers ≡ true → (k : ℕ) × (k < length numbers) × (getD numbers k 0 ≡ number)
@@ -93,12 +99,15 @@ three-entries context long =
     ∙ ap (λ (rest : List ℕ). getD context entriesAt 0 ∷ rest)
     (drop-cons context (entriesAt + 1) 0 (omega arith) ∙ ap (λ (rest : List ℕ). getD context (entriesAt + 1) 0 ∷ rest) (drop-cons context (entriesAt + 2) 0 (omega arith))))
 
+pub entries-long : (context : List ℕ) → Long context → length (tableOf context .entries) ≡ most
+entries-long context long = ap length (three-entries context long)
+
 -- ---- a table that is made
 
 module _ (handles algorithms context : List ℕ) (long : Long context) where
   -- it has the words that were stored
   made-long : Long (made handles algorithms context)
-  made-long = made-keeps Long (λ c i v _ l. rw (length-set c i v) l) context long handles algorithms
+  made-long = made-keeps Long store-long context long handles algorithms
 
   -- how they are stored, one after the other
   abbrev counted : List ℕ

@@ -7,13 +7,14 @@ use mathlib.Core.List.{List, [], _∷_, _++_}
 use native.Mathlib.Omega.{arith}
 use lib.Dec.{eqb, ltb}
 use lib.ListN.{length, getD, set}
-use borrow.Author.Tests.{lt-ltb, le-ltb, ltb-true, leb-true, leb-false, eq-eqb, ne-eqb, not-false}
+use borrow.Author.Tests.{lt-ltb, le-ltb, ltb-true, eqb-true, leb-true, leb-false, eq-eqb, ne-eqb, not-false}
 use Rattle.laws.specs.Tests.{and}
+use Rattle.laws.specs.Below.{first-tells, first-least}
 use Rattle.laws.specs.Refusals.{firstOf, numberOf, number-refuses, number-passes, Accepted, testAt, refusalAt, Past, refused-at, past-all, first-elim, Applies}
 use Rattle.context.specs.Context.{countAt, entriesAt, greatestAt}
 use Rattle.context.specs.Laws.{part-at}
 use Rattle.context.specs.State.{Outcome, outcome, refusing}
-use Rattle.handles.specs.Handles.{most, countGood, entryOf, handleOf, algorithmOf, Table, tableOf, handleAt, algorithmAt, holdsAt, usedUp, rotated, rotatedAt}
+use Rattle.handles.specs.Handles.{most, countGood, entryOf, handleOf, algorithmOf, Table, tableOf, handleAt, algorithmAt, holdsAt, lowestWith, hasHandle, usedUp, rotated, rotatedAt}
 use Rattle.handles.specs.Making.{distinct, greater, largest, made, makingTests, makingOf}
 use Rattle.handles.specs.declared.Answer.{Answer}
 use Rattle.handles.specs.declared.Answer.the-variants.{Made, Refused}
@@ -49,6 +50,28 @@ good-most count h = leb-true _ _ (and (ltb 0 count) _ h .1)
 
 pub next-fits : (t : Table) → usedUp t ≡ false → t .greatest + 1 < 2 ^ 32
 next-fits t o = omega (arith, leb-false (2 ^ 32 - 1) (t .greatest) o)
+
+-- a handle that the table has: a place of the table has it, and no lower one
+pub record Lowest (t : Table) (handle k : ℕ) : Type 0 where
+  pub within : k < most
+  pub counted : k < t .count
+  pub has : handleAt t k ≡ handle
+  pub no-lower : (j : ℕ) → j < k → handleAt t j ≡ handle → ⊥
+
+pub lowest-tells : (t : Table) (handle : ℕ) → hasHandle t handle ≡ true → Lowest t handle (lowestWith t handle)
+unfolding holdsAt
+lowest-tells t handle h =
+    let k = lowestWith t handle in
+    let within : k < most = ltb-true _ _ h in
+    let holds = and (ltb k (t .count)) (eqb (handleAt t k) handle) (first-tells (holdsAt t handle) 0 most .at (omega arith)) in
+    let counted : k < t .count = ltb-true _ _ (holds .0) in
+    record {
+      within = within;
+      counted = counted;
+      has = eqb-true _ _ (holds .1);
+      no-lower = λ j l e.
+          let m = first-least (holdsAt t handle) most j (omega arith) (rw (lt-ltb j (t .count) (omega arith)) (eq-eqb _ _ e)) in omega arith;
+    }
 
 -- ---- a rotation
 

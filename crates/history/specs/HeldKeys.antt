@@ -45,13 +45,14 @@ use Rattle.erasure.specs.Cuts.{whole-by}
 use Rattle.mailbox.specs.declared.effects.Effect.{Effect}
 use Rattle.mailbox.specs.Laws.{fers-context}
 use Rattle.mailbox.specs.Told.{mailbox-elim}
+use Rattle.mailbox.specs.Handles.{rotated-cache}
 use Rattle.mailbox.specs.Mailbox.{rotationOf, partitionIn, accepted, ownTests, stateAfter}
 use Rattle.engine.specs.declared.EngineReply.{EngineReply}
 use Rattle.reply.specs.declared.Answer.{Answer as ReplyAnswer}
 use Rattle.reply.specs.Reply.{kindAfter}
 use Rattle.reply.specs.Laws.{reply-elim}
 use Rattle.history.specs.Calls.{occupied, Call, Direct, Erase, EraseCut, Mailbox, TakeReply, MakeTable, Restart, after, afterAll}
-use Rattle.history.specs.Kept.{rotated-cache, made-cache}
+use Rattle.history.specs.Kept.{made-cache}
 
 -- ---- the claim
 

@@ -1,15 +1,15 @@
--- What calls leave of the context: a direct command and an erasure all of it; orders, replies, cuts and restarts the table; a rotation and
--- a table that is made the cache. Assumes nothing.
+-- What calls leave of the context: a direct command and an erasure all of it; replies, cuts and restarts the table; a
+-- table that is made the cache. Assumes nothing.
 use Prim.Native.Nat.{ℕ}
 use mathlib.Core.Path.{_≡_, refl, sym, subst, _∙_}
 use mathlib.Core.List.{List}
 use Rattle.laws.specs.Refusals.{first-elim}
 use Rattle.context.specs.State.{State, Outcome, refusing}
-use Rattle.cache.specs.Cache.{cacheOf, emptied, waitingAt, clearing, settled}
-use Rattle.cache.specs.Laws.{emptied-behind, waiting-behind, clearing-behind, settled-behind, store-behind}
-use Rattle.handles.specs.Handles.{tableOf, rotatedAt}
+use Rattle.cache.specs.Cache.{cacheOf, emptied, settled}
+use Rattle.cache.specs.Laws.{emptied-behind, settled-behind, store-behind}
+use Rattle.handles.specs.Handles.{tableOf}
 use Rattle.handles.specs.Making.{made}
-use Rattle.handles.specs.After.{table-behind, rotated-keeps, made-keeps}
+use Rattle.handles.specs.After.{table-behind, made-keeps}
 use Rattle.word.specs.declared.Lookup.{Lookup}
 use Rattle.word.specs.declared.Lookup.the-variants.{Word as Found, Nothing as NoWord}
 use Rattle.word.specs.Word.{wordAt}
@@ -44,25 +44,15 @@ module _ (image marks : List ℕ) (s : State) where
       first-elim (λ (o : Outcome Answer State). o .after .context ≡ s .context) (refusing unburned s) (eraseTests image marks i s) (burning image marks i k mask s)
       (λ n _. refl) (λ none. refl)
 
--- ---- what orders, replies, cuts and restarts leave of the table
+-- ---- what replies, cuts and restarts leave of the table
 
 pub emptied-table : (context : List ℕ) → tableOf (emptied context) ≡ tableOf context
 emptied-table context = table-behind context (emptied context) (emptied-behind context)
 
-pub waiting-table : (k tag reply : ℕ) (context : List ℕ) → tableOf (waitingAt k tag reply context) ≡ tableOf context
-waiting-table k tag reply context = table-behind context (waitingAt k tag reply context) (waiting-behind k tag reply context)
-
-pub clearing-table : (context : List ℕ) → tableOf (clearing context) ≡ tableOf context
-clearing-table context = table-behind context (clearing context) (clearing-behind context)
-
 pub settled-table : (kind : ℕ) (context : List ℕ) → tableOf (settled kind context) ≡ tableOf context
 settled-table kind context = table-behind context (settled kind context) (settled-behind kind context)
 
--- ---- what a rotation and a table that is made leave of the cache
-
-pub rotated-cache : (k number : ℕ) (context : List ℕ) → cacheOf (rotatedAt k number context) ≡ cacheOf context
-rotated-cache k number context =
-    rotated-keeps (λ (c : List ℕ). cacheOf c ≡ cacheOf context) (λ c i v l e. store-behind c i v l ∙ e) context refl k number
+-- ---- what a table that is made leaves of the cache, as a rotation does (`mailbox` `rotated-cache`)
 
 pub made-cache : (handles algorithms context : List ℕ) → cacheOf (made handles algorithms context) ≡ cacheOf context
 made-cache handles algorithms context =

@@ -8,6 +8,8 @@ pub mod Standing
 pub mod Settled
 pub mod OrdersProof
 pub mod Recovery
+pub mod Handles
+pub mod HandlesProof
 pub mod Refused
 pub mod Fifteen
 pub mod Demand3

@@ -36,11 +36,12 @@ use Rattle.mailbox.specs.declared.effects.Effect.{Effect}
 use Rattle.mailbox.specs.declared.Reply.{Reply}
 use Rattle.mailbox.specs.declared.Reply.the-variants.{Refused, Accepted}
 use Rattle.mailbox.specs.Told.{mailbox-elim}
+use Rattle.mailbox.specs.Handles.{rotated-cache}
 use Rattle.mailbox.specs.Mailbox.{refused, fersOf, rotationOf, partitionIn, accepted, ownTests, contextAfter, replyOf}
 use Rattle.reply.specs.declared.Answer.{Answer as ReplyAnswer}
 use Rattle.reply.specs.Laws.{reply-elim, reply-taken}
 use Rattle.history.specs.Calls.{Call, Direct, Erase, EraseCut, Mailbox, TakeReply, MakeTable, Restart, Taking, orderIn, told, after, afterAll}
-use Rattle.history.specs.Kept.{direct-leaves, erase-leaves, rotated-cache, made-cache}
+use Rattle.history.specs.Kept.{direct-leaves, erase-leaves, made-cache}
 use Rattle.history.specs.Orders.{Given, Answered, opened, closed, takenTold, ordersAfter, ordersAll, openIn, EmptyContext, Orderly}
 use Rattle.history.specs.Standing.{Standing, idle, awaited, Sound, sound-start, sound-cache, sound-emptied, sound-load, sound-unload, sound-clear, replied-to}
 use Rattle.history.specs.Settled.{sound-reply, clear-done}

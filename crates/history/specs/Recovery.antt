@@ -17,6 +17,7 @@ use Rattle.cache.specs.Cache.{cacheOf, hasPlace, awaits, busy, AtRest, clearing
 use Rattle.cache.specs.declared.Sought.the-variants.{Waiting}
 use Rattle.cache.specs.Laws.{has-tells}
 use Rattle.cache.specs.After.{is-waiting}
+use Rattle.handles.specs.Handles.{Table, tableOf, hasTable}
 use Rattle.engine.specs.declared.EngineReply.{EngineReply}
 use Rattle.engine.specs.declared.EngineReply.the-variants.{Done}
 use Rattle.codec.specs.declared.Command.the-variants.{Clkc}
@@ -25,9 +26,10 @@ use Rattle.codec.specs.Request.{requestTests}
 use Rattle.mailbox.specs.declared.effects.Effect.{Effect}
 use Rattle.mailbox.specs.Mailbox.{refused, accepted, mailboxTests, doneOf, contextAfter}
 use Rattle.reply.specs.declared.Answer.{Answer as ReplyAnswer}
-use Rattle.reply.specs.Reply.{replied, takingOf}
+use Rattle.reply.specs.Reply.{kindAfter, replied, takingOf}
 use Rattle.reply.specs.Laws.{reply-elim, reply-taken}
 use Rattle.history.specs.Calls.{Call, Mailbox, TakeReply, told, after, afterAll}
+use Rattle.history.specs.Kept.{settled-table}
 use Rattle.history.specs.Orders.{Given, ordersAfter, EmptyContext}
 use Rattle.history.specs.Standing.{Standing, idle, awaited, Sound, sound-start, sound-clear}
 use Rattle.history.specs.Settled.{none-awaited, sound-reply, clear-done}
@@ -68,21 +70,29 @@ reply-still image marks s orders sound reply =
     (λ some. idle-still (replied reply (s .context)) (sound-reply reply orders (s .context) sound some .standing)
     (ap not (eq-eqb _ _ (none-awaited reply (s .context) (sound .long)))))
 
--- ---- the theorem; that 1 and 2 do not refuse the drive is asked of what is lent when the three calls begin
+-- and the table is as it was
+reply-table : (image marks : List ℕ) (s : State) (reply : EngineReply) → tableOf (after image marks (TakeReply reply) s .context) ≡ tableOf (s .context)
+reply-table image marks s reply =
+    reply-elim reply (s .context) (λ (o : Outcome ReplyAnswer (List ℕ)). tableOf (o .after) ≡ tableOf (s .context))
+    (λ _. refl) (λ _. settled-table (kindAfter reply (cacheOf (s .context) .awaited)) (s .context))
+
+-- ---- the theorem; that 1 and 2 do not refuse the drive, by request P6 that there is a table too, is asked of what is lent when the three
+-- calls begin
 
 module _ (image marks : List ℕ) (good : mapGood image ≡ true) where
-  recovers-from : (s : State) (orders : List Given) → Sound orders (s .context) → wholeArrays image (s .cells) marks ≡ true → (reply : EngineReply)
-      → AtRest (cacheOf (afterAll image marks (recovering reply) s .context))
-  recovers-from s orders sound arrays reply =
+  recovers-from : (s : State) (orders : List Given) → Sound orders (s .context) → wholeArrays image (s .cells) marks ≡ true
+      → hasTable (tableOf (s .context)) ≡ true → (reply : EngineReply) → AtRest (cacheOf (afterAll image marks (recovering reply) s .context))
+  recovers-from s orders sound arrays table reply =
       let then = after image marks (TakeReply reply) s in
       let kept = ordersAfter (TakeReply reply) (told image marks (TakeReply reply) s) orders in
       let still = reply-still image marks s orders sound reply in
       let cleared = sound-clear kept (then .context) (call-kept image marks s orders sound (TakeReply reply)) still 1000 in
       let done = clear-done (clearing (then .context)) cleared 1000 kept refl in
-      let is : after image marks clkc then .context ≡ clearing (then .context) = clkc-clears image marks then good arrays still in
+      let is : after image marks clkc then .context ≡ clearing (then .context) = clkc-clears image marks then good arrays (ap hasTable (reply-table image marks s reply) ∙ table) still in
       subst (λ (context : List ℕ). AtRest (cacheOf (takingOf Done context .after))) (sym is) (rw (reply-taken Done (clearing (then .context)) (done .0)) (done .1))
 
   pub recovers : (start : State) → EmptyContext (start .context) → (calls : List Call) → let now = afterAll image marks calls start in
-      wholeArrays image (now .cells) marks ≡ true → (reply : EngineReply) → AtRest (cacheOf (afterAll image marks (recovering reply) now .context))
-  recovers start e calls arrays reply =
-      recovers-from (afterAll image marks calls start) _ (all-kept image marks calls start [] (sound-start (start .context) e)) arrays reply
+      wholeArrays image (now .cells) marks ≡ true → hasTable (tableOf (now .context)) ≡ true → (reply : EngineReply)
+      → AtRest (cacheOf (afterAll image marks (recovering reply) now .context))
+  recovers start e calls arrays table reply =
+      recovers-from (afterAll image marks calls start) _ (all-kept image marks calls start [] (sound-start (start .context) e)) arrays table reply

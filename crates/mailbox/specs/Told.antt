@@ -99,19 +99,30 @@ module _ (image marks : List ℕ) (code : ℕ) (request : List ℕ) (room block 
       (lowest-tells Refused (replyOf (callDone .told)) 1 callTests (numbered-by (commandOf code) image marks code request (lentBad room block (s .context)) s .ascend))
 
   -- what holds of every refusal by the tests, none of which is 0 or 15, and of what an accepted call does, holds of what is done
-  pub mailbox-elim : (P : Outcome Effect (List ℕ) → Type 0) → ((n : ℕ) → (n ≡ 0 → ⊥) → (n ≡ 15 → ⊥) → P (refusing refused (s .cells) n))
-      → (mapGood image ≡ true → wholeArrays image (s .cells) marks ≡ true → known (commandOf code) ≡ true
+  pub lent-elim : (P : Outcome Effect (List ℕ) → Type 0) → ((n : ℕ) → (n ≡ 0 → ⊥) → (n ≡ 15 → ⊥) → P (refusing refused (s .cells) n))
+      → (lentBad room block (s .context) ≡ false → mapGood image ≡ true → wholeArrays image (s .cells) marks ≡ true → known (commandOf code) ≡ true
       → ((k : ℕ) → testAt (ownTests (commandOf code) image request s) k ≡ false) → P callDone)
       → P (doneOf image marks code request room block s)
   unfolding doneOf requestTests
-  mailbox-elim P by-test by-command =
+  lent-elim P by-test by-command =
       let numbered = numbered-by (commandOf code) image marks code request (lentBad room block (s .context)) s in
       first-elim P (refusing refused (s .cells)) callTests callDone
       (λ n a.
       by-test n (λ e. not-applies 0 callTests (numbered .not-0) (subst (λ (m : ℕ). Applies m callTests) e a))
       (λ e. not-applies 15 callTests (numbered .not-15) (subst (λ (m : ℕ). Applies m callTests) e a)))
-      -- two tests of the drive, one of the buffers, four of the request, then the command's own
-      (λ none. by-command (not-false _ (none 0)) (not-false _ (none 1)) (not-false _ (none 3)) (λ k. none (suc (suc (suc (suc (suc (suc (suc k)))))))))
+      -- two tests of the drive, one of what is lent besides, four of the request, then the command's own
+      (λ none. by-command (none 2) (not-false _ (none 0)) (not-false _ (none 1)) (not-false _ (none 3)) (λ k. none (suc (suc (suc (suc (suc (suc (suc k)))))))))
+
+  -- where the buffers and the table do not matter
+  pub mailbox-elim : (P : Outcome Effect (List ℕ) → Type 0) → ((n : ℕ) → (n ≡ 0 → ⊥) → (n ≡ 15 → ⊥) → P (refusing refused (s .cells) n))
+      → (mapGood image ≡ true → wholeArrays image (s .cells) marks ≡ true → known (commandOf code) ≡ true
+      → ((k : ℕ) → testAt (ownTests (commandOf code) image request s) k ≡ false) → P callDone)
+      → P (doneOf image marks code request room block s)
+  mailbox-elim P by-test by-command = lent-elim P by-test (λ _. by-command)
+
+-- an accepted call is not refused
+pub refused-not : {A : Type 0} {n m : ℕ} {order : Order} → Refused n ≡ Accepted m order → A
+refused-not e = let z : _≡_ {A = ℕ} 0 1 = cc in absurd (omega arith)
 
 -- ---- FERS that ended: its partition is erased exactly when the response has no short pair or its first short cell is the indicator's, torn
 -- otherwise
@@ -128,9 +139,6 @@ module _ (image marks request : List ℕ) (l : Lent) where
 
   abbrev FersLeaves : Outcome Effect (List ℕ) → Type 0
   FersLeaves d = (n : ℕ) (order : Order) → replyOf (d .told) ≡ Accepted n order → LeftAsRead (responseAfter (d .told) (l .response)) (d .after)
-
-  refused-not : {A : Type 0} {n m : ℕ} {order : Order} → Refused n ≡ Accepted m order → A
-  refused-not e = let z : _≡_ {A = ℕ} 0 1 = cc in absurd (omega arith)
 
   read-back : (short first burns : ℕ) (cells : List ℕ) → LeftBy (indicatorCell image p) short first (surveyAt image cells p)
       → LeftAsRead (responseAfter (fersOf (Ended short first burns)) (l .response)) cells
