@@ -10,12 +10,15 @@ use native.Mathlib.Nat.{not-suc-le-zero, le-of-suc-le-suc}
 use lib.Dec.{eqb, ltb}
 use lib.ListN.{length, getD, take, set, length-set}
 use lib.Seq.{getD-set-same, getD-set-other, drop-cons}
-use borrow.Author.Tests.{eqb-true, eq-eqb, ne-eqb, ltb-true, ltb-false, not-false, not-true}
+use borrow.Author.Tests.{eqb-true, eq-eqb, lt-ltb, le-leb, ltb-true, ltb-false, not-false, not-true}
 use Rattle.laws.specs.Tests.{and, decided, neither, not-yes, cond-keeps}
 use Rattle.context.specs.Context.{countAt, entriesAt, greatestAt}
+use Rattle.context.specs.State.{Outcome, outcome}
+use Rattle.handles.specs.declared.Answer.{Answer}
+use Rattle.handles.specs.declared.Answer.the-variants.{Made}
 use Rattle.handles.specs.Handles.{most, countGood, entryOf, handleOf, algorithmOf, Table, Long, tableOf, handleAt, algorithmAt, handlesIn}
-use Rattle.handles.specs.Making.{isAmong, distinct, greater, largest, Fresh, entryFrom, made}
-use Rattle.handles.specs.Laws.{count-read, greatest-read, entry-read, good-most}
+use Rattle.handles.specs.Making.{isAmong, distinct, greater, largest, Fresh, entryFrom, made, makingOf}
+use Rattle.handles.specs.Laws.{count-read, greatest-read, good-most, making-past, making-made, making-elim}
 use Rattle.handles.specs.After.{store-long, entry-handle, entry-algorithm, made-keeps}
 
 -- ---- numbers
@@ -190,3 +193,40 @@ module _ (handles algorithms context : List ℕ) (long : Long context) where
     made-fresh g d =
         let same = made-handles (good-most (length handles) g) in
         record { long = made-long; counted = rw made-count g; apart = rw same d; largest-given = made-greatest ∙ ap largest (sym same) }
+
+-- ---- a table is made exactly "in a context that has none (count 0), from one to three distinct handles with their algorithms"
+
+pub record MayMake (handles algorithms context : List ℕ) : Type 0 where
+  pub none-yet : tableOf context .count ≡ 0
+  pub least : 1 ≤ length handles
+  pub most-three : length handles ≤ 3
+  pub paired : length algorithms ≡ length handles
+  pub apart : (j k : ℕ) → j < k → k < length handles → getD handles j 0 ≡ getD handles k 0 → ⊥
+
+module _ (handles algorithms context : List ℕ) where
+  pub made-may : makingOf handles algorithms context .told ≡ Made → MayMake handles algorithms context
+  made-may =
+      making-elim handles algorithms context (λ (o : Outcome Answer (List ℕ)). o .told ≡ Made → MayMake handles algorithms context)
+      (λ e. absurd (let z : _≡_ {A = ℕ} 0 1 = cc in omega arith))
+      (λ none e.
+      let good = not-false _ (none 1) in
+      record {
+        none-yet = eqb-true _ _ (not-false _ (none 0));
+        least = ltb-true _ _ (and (ltb 0 (length handles)) _ good .0);
+        most-three = good-most (length handles) good;
+        paired = eqb-true _ _ (not-false _ (none 2));
+        apart = distinct-tells handles (not-false _ (none 3));
+      })
+
+  pub may-made : MayMake handles algorithms context → makingOf handles algorithms context ≡ outcome Made (made handles algorithms context)
+  may-made m =
+      sym (making-made handles algorithms context (making-past handles algorithms context (
+        ap not (eq-eqb _ _ (m .none-yet)),
+        (
+          ap not (rw (lt-ltb _ _ (m .least)) (le-leb _ _ (m .most-three))),
+          (
+            ap not (eq-eqb _ _ (m .paired)),
+            (ap not (distinct-by handles (m .apart)), tt),
+          ),
+        ),
+      )))

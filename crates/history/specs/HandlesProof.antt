@@ -1,12 +1,12 @@
 -- Request P6, the theorem of `Handles`: what each call makes of the table, and what every list of calls keeps. Assumes nothing.
-use Prim.Native.Nat.{ℕ, _≤_, _<_}
+use Prim.Native.Nat.{ℕ, _^_, _≤_, _<_}
 use mathlib.Core.Path.{_≡_, refl, sym, ap, _∙_}
 use mathlib.Core.Logic.{⊎-elim}
 use mathlib.Core.Bool.{Bool, true, false, cond, false≢true}
 use mathlib.Core.List.{List, [], _∷_, _++_, append-nil}
 use native.Mathlib.Omega.{arith}
 use lib.Dec.{eqb}
-use lib.ListN.{length, take, drop}
+use lib.ListN.{length, getD, take, drop}
 use lib.Seq.{take-at}
 use borrow.Author.Tests.{eqb-true, eqb-false, ne-eqb, not-false}
 use Rattle.laws.specs.Tests.{decided, not-yes, cond-keeps}
@@ -20,7 +20,7 @@ use Rattle.handles.specs.Handles.{most, countGood, Long, tableOf, hasTable, han
 use Rattle.handles.specs.Making.{isAmong, distinct, Fresh}
 use Rattle.handles.specs.Laws.{good-most, next-fits, Lowest, lowest-tells, making-elim}
 use Rattle.handles.specs.After.{store-long, table-behind, long-behind, rotated-keeps, rotated-count, rotated-greatest, rotated-handle, rotated-other}
-use Rattle.handles.specs.Fresh.{among-here, among-after, largest-most, handle-among, entries-long}
+use Rattle.handles.specs.Fresh.{among-here, among-after, largest-most, handle-among, entries-long, made-fresh}
 use Rattle.erasure.specs.Erasure.{never, eraseOf, isCut, uncutOf}
 use Rattle.codec.specs.declared.Command.{Command}
 use Rattle.codec.specs.declared.Command.the-variants.{Clkc, Klod, Kunl, Fers, Fsta, Ehdl, Rhpk, Unknown}
@@ -33,7 +33,8 @@ use Rattle.mailbox.specs.Told.{mailbox-elim}
 use Rattle.reply.specs.declared.Answer.{Answer as ReplyAnswer}
 use Rattle.reply.specs.Reply.{kindAfter}
 use Rattle.reply.specs.Laws.{reply-elim}
-use Rattle.history.specs.Calls.{Call, Direct, Erase, EraseCut, Mailbox, TakeReply, MakeTable, Restart, replying, told, after, afterAll}
+use Rattle.history.specs.Calls.{Call, Direct, Erase, EraseCut, Mailbox, TakeReply, MakeTable, Restart}
+use Rattle.history.specs.Calls.{Making, replying, told, refusal, after, afterAll}
 use Rattle.history.specs.Kept.{direct-leaves, erase-leaves}
 use Rattle.history.specs.Handles.{givenTold, givenBy, givenAll, NumbersOnce}
 
@@ -199,3 +200,31 @@ pub numbers-once : NumbersOnce
 numbers-once image marks start fresh calls =
     let sound = sound-all image marks calls start (handlesIn (tableOf (start .context))) (sound-start (start .context) fresh) in
     record { none-twice = sound .none-twice; all-given = sound .all-given }
+
+-- ---- a table that is made is fresh, and one that is there stays: its count does not change
+
+pub made-is-fresh : (image marks handles algorithms : List ℕ) (s : State) → Long (s .context) → ((k : ℕ) → k < length handles → getD handles k 0 < 2 ^ 32)
+    → refusal (told image marks (MakeTable handles algorithms) s) ≡ 0 → Fresh (after image marks (MakeTable handles algorithms) s .context)
+made-is-fresh image marks handles algorithms s long fits =
+    making-elim handles algorithms (s .context) (λ (o : Outcome TableAnswer (List ℕ)). refusal (Making (o .told)) ≡ 0 → Fresh (o .after))
+    (λ z. absurd (omega arith)) (λ none _. made-fresh handles algorithms (s .context) long fits (not-false _ (none 1)) (not-false _ (none 3)))
+
+record Tabled (context : List ℕ) : Type 0 where
+  long : Long context
+  counted : hasTable (tableOf context) ≡ true
+
+step-tabled : (before after given : List ℕ) → Step before after given → Tabled before → Tabled after
+step-tabled before after given (keeps e none) t = record { long = long-behind before after e (t .long); counted = rw (table-behind before after e) (t .counted) }
+step-tabled before after given (rotates handle found left e is) t =
+    let k = lowestWith (tableOf before) handle in
+    let next = nextNumber (tableOf before) in
+    rw e (record { long = rotated-keeps Long store-long before (t .long) k next; counted = rw (rotated-count k next before (t .long) (found .within)) (t .counted) })
+step-tabled before after given (makes none) t = absurd (false≢true (sym (ap countGood none) ∙ t .counted))
+
+pub table-stays : (image marks : List ℕ) (calls : List Call) (s : State) → Long (s .context) → hasTable (tableOf (s .context)) ≡ true
+    → hasTable (tableOf (afterAll image marks calls s .context)) ≡ true
+table-stays image marks [] s long h = h
+table-stays image marks (call ∷ calls) s long h =
+    let now = after image marks call s in
+    let t = step-tabled (s .context) (now .context) _ (call-step image marks s call) (record { long = long; counted = h }) in
+    table-stays image marks calls now (t .long) (t .counted)
