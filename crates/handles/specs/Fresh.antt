@@ -12,12 +12,13 @@ use lib.ListN.{length, getD, take, set, length-set}
 use lib.Seq.{getD-set-same, getD-set-other, drop-cons}
 use borrow.Author.Tests.{eqb-true, eq-eqb, lt-ltb, le-leb, ltb-true, ltb-false, not-false, not-true}
 use Rattle.laws.specs.Tests.{and, decided, neither, not-yes, cond-keeps}
+use Rattle.laws.specs.Refusals.{Past}
 use Rattle.context.specs.Context.{countAt, entriesAt, greatestAt}
 use Rattle.context.specs.State.{Outcome, outcome}
 use Rattle.handles.specs.declared.Answer.{Answer}
 use Rattle.handles.specs.declared.Answer.the-variants.{Made}
 use Rattle.handles.specs.Handles.{most, countGood, entryOf, handleOf, algorithmOf, Table, Long, tableOf, handleAt, algorithmAt, handlesIn}
-use Rattle.handles.specs.Making.{isAmong, distinct, greater, largest, Fresh, entryFrom, made, makingOf}
+use Rattle.handles.specs.Making.{isAmong, distinct, greater, largest, Fresh, entryFrom, made, makingTests, makingOf}
 use Rattle.handles.specs.Laws.{count-read, greatest-read, good-most, making-past, making-made, making-elim}
 use Rattle.handles.specs.After.{store-long, entry-handle, entry-algorithm, made-keeps}
 
@@ -220,13 +221,7 @@ module _ (handles algorithms context : List ℕ) where
 
   pub may-made : MayMake handles algorithms context → makingOf handles algorithms context ≡ outcome Made (made handles algorithms context)
   may-made m =
-      sym (making-made handles algorithms context (making-past handles algorithms context (
-        ap not (eq-eqb _ _ (m .none-yet)),
-        (
-          ap not (rw (lt-ltb _ _ (m .least)) (le-leb _ _ (m .most-three))),
-          (
-            ap not (eq-eqb _ _ (m .paired)),
-            (ap not (distinct-by handles (m .apart)), tt),
-          ),
-        ),
-      )))
+      let good : countGood (length handles) ≡ true = rw (lt-ltb 0 (length handles) (m .least)) (le-leb _ _ (m .most-three)) in
+      let past : Past 4 (makingTests handles algorithms context) =
+      (ap not (eq-eqb _ _ (m .none-yet)), (ap not good, (ap not (eq-eqb _ _ (m .paired)), (ap not (distinct-by handles (m .apart)), tt)))) in
+      sym (making-made handles algorithms context (making-past handles algorithms context past))
