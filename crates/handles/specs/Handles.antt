@@ -68,8 +68,11 @@ abbrev pub hasHandle : Table → (handle : ℕ) → Bool
 hasHandle t handle = ltb (lowestWith t handle) most
 
 -- "numbers used up": the greatest is the last number of 32 bits, or no such number at all
+abbrev pub lastNumber : ℕ
+lastNumber = 2 ^ 32 - 1
+
 abbrev pub usedUp : Table → Bool
-usedUp t = leb (2 ^ 32 - 1) (t .greatest)
+usedUp t = leb lastNumber (t .greatest)
 
 -- "the new number is one above the greatest ever given"
 abbrev pub nextNumber : Table → ℕ

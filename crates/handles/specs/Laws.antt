@@ -14,7 +14,7 @@ use Rattle.laws.specs.Refusals.{firstOf, numberOf, number-refuses, number-passe
 use Rattle.context.specs.Context.{countAt, entriesAt, greatestAt}
 use Rattle.context.specs.Laws.{part-at}
 use Rattle.context.specs.State.{Outcome, outcome, refusing}
-use Rattle.handles.specs.Handles.{most, countGood, entryOf, handleOf, algorithmOf, Table, tableOf, handleAt, algorithmAt, holdsAt, lowestWith, hasHandle, usedUp, rotated, rotatedAt}
+use Rattle.handles.specs.Handles.{most, countGood, entryOf, handleOf, algorithmOf, Table, tableOf, handleAt, algorithmAt, holdsAt, lowestWith, hasHandle, lastNumber, usedUp, rotated, rotatedAt}
 use Rattle.handles.specs.Making.{distinct, greater, largest, made, makingTests, makingOf}
 use Rattle.handles.specs.declared.Answer.{Answer}
 use Rattle.handles.specs.declared.Answer.the-variants.{Made, Refused}
@@ -49,7 +49,7 @@ pub good-most : (count : ℕ) → countGood count ≡ true → count ≤ most
 good-most count h = leb-true _ _ (and (ltb 0 count) _ h .1)
 
 pub next-fits : (t : Table) → usedUp t ≡ false → t .greatest + 1 < 2 ^ 32
-next-fits t o = omega (arith, leb-false (2 ^ 32 - 1) (t .greatest) o)
+next-fits t o = omega (arith, leb-false lastNumber (t .greatest) o)
 
 -- a handle that the table has: a place of the table has it, and no lower one
 pub record Lowest (t : Table) (handle k : ℕ) : Type 0 where

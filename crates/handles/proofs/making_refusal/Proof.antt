@@ -13,7 +13,7 @@ use Rattle.handles.proofs.making_refusal.Tie as tie
 
 -- the tests that have passed: there is no table, the count is good, there are as many algorithms
 new : (c : tie.Else1) → let a = c .before .before .before .before .args in not (eqb (tableOf (a .context .now) .count) 0) ≡ false
-new c = let a = c .before .before .before .before .args in rw (← count-read (a .context .now), eq-eqb _ _ (c .if1 .left))
+new c = let a = c .before .before .before .before .args in ap not (eq-eqb _ _ (sym (count-read (a .context .now)) ∙ c .if1 .left))
 
 counted : (c : tie.Else2) → let a = c .before .before .before .before .before .before .args in not (countGood (length (a .handles .now))) ≡ false
 counted c = ap not (sym (c .before .is-count .ensures)) ∙ c .if2 .left
@@ -27,7 +27,7 @@ element-copy-out-if1 c = search needs
 returns : tie.Need-returns
 returns c =
     let a = c .before .before .before .before .args in
-    making-at (a .handles .now) (a .algorithms .now) (a .context .now) 0 tt (rw (← count-read (a .context .now), ne-eqb _ _ (c .if1 .taken)))
+    making-at (a .handles .now) (a .algorithms .now) (a .context .now) 0 tt (ap not (ne-eqb _ _ (λ e. c .if1 .taken (count-read (a .context .now) ∙ e))))
 
 is-count-requires : tie.Need-is-count-requires
 is-count-requires c κs = search needs
