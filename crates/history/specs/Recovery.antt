@@ -39,8 +39,11 @@ use Rattle.history.specs.OrdersProof.{call-kept, all-kept, open-exactly}
 abbrev request : List ℕ
 request = bytes4 0xFFFF_FDF8 ++ bytes4 0 ++ bytes4 1000
 
+abbrev room : ℕ
+room = 40
+
 abbrev pub clkc : Call
-clkc = Mailbox (codeOf Clkc) request (replicate 40 0) (replicate 128 0)
+clkc = Mailbox (codeOf Clkc) request (replicate room 0) (replicate 128 0)
 
 -- any reply, which is refused where none is awaited; CLKC; done
 abbrev pub recovering : EngineReply → List Call
@@ -52,7 +55,7 @@ clkc-clears : (image marks : List ℕ) (s : State) → mapGood image ≡ true �
 unfolding doneOf requestTests u32At u16At
 clkc-clears image marks s good arrays table still =
     ap (λ (d : Outcome Effect (List ℕ)). contextAfter (d .told) (s .context))
-    (sym (past-all (refusing refused (s .cells)) (accepted Clkc image marks request s) (mailboxTests image marks (codeOf Clkc) request 40 128 s)
+    (sym (past-all (refusing refused (s .cells)) (accepted Clkc image marks request s) (mailboxTests image marks (codeOf Clkc) request room 128 s)
     (ap not good, (ap not arrays, (ap not table, (refl, (refl, (refl, (refl, (still, (refl, tt)))))))))))
 
 -- where none is awaited, no place waits
