@@ -92,14 +92,16 @@ fn holds_at(context: &Context, handle: u32, k: usize) -> bool
 
 // The lowest place with a handle, 3 where there is none.
 pub fn lowest_with(context: &Context, handle: u32) -> u32
-    ensures { λ r. ⌜ (r ≡ lowestWith (tableOf (now (context .entry))) handle) × (r ≤ 3) ⌝ }
+    ensures { λ r. ⌜ r ≡ lowestWith (tableOf (now (context .entry))) handle ⌝ }
 {
-    let mut k: usize = 0;
-    while k < 3 {
-        if holds_at(context, handle, k) {
-            return k as u32;
-        }
-        k += 1;
+    if holds_at(context, handle, 0) {
+        return 0;
+    }
+    if holds_at(context, handle, 1) {
+        return 1;
+    }
+    if holds_at(context, handle, 2) {
+        return 2;
     }
     MOST
 }

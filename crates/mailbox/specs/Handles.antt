@@ -61,15 +61,7 @@ pub record Lists (t : Table) (response : List ℕ) : Type 0 where
 
 -- by how many there are
 abbrev numbersBy : Table → (count : ℕ) → Numbers
-numbersBy t count = record {
-  first = count;
-  second = handleAt t 0;
-  third = algorithmAt t 0;
-  fourth = handleAt t 1;
-  fifth = algorithmAt t 1;
-  sixth = handleAt t 2;
-  seventh = algorithmAt t 2;
-}
+numbersBy t count = tableNumbers (record { count = count; entries = t .entries; greatest = t .greatest })
 
 abbrev Reads : Table → (count : ℕ) → Field → (value : ℕ) (response : List ℕ) → Type 0
 Reads t count field value response =

@@ -1,54 +1,59 @@
--- `handles::lowest_with` meets its contract: the loop's invariant: the search from `k` on answers for the whole. Assumes nothing.
-use Prim.Native.Nat.{_≤_, _-_}
-use mathlib.Core.Path.{_≡_, sym, _∙_}
-use native.Mathlib.Omega.{arith}
+-- `handles::lowest_with` meets its contract: one place after the other. Assumes nothing.
+use mathlib.Core.Path.{sym, _∙_}
+use Rattle.laws.specs.Below.{firstFrom}
 use borrow.Author.Needs.{needs}
-use Rattle.laws.specs.Below.{firstFrom, first-start, first-here, first-next, first-end}
-use Rattle.handles.specs.Handles.{tableOf, holdsAt, lowestWith}
 use Rattle.handles.proofs.lowest_with.Statement.{statement}
 use Rattle.handles.proofs.lowest_with.Tie as tie
 
-abbrev Inv-loop : tie.InvT-loop
-Inv-loop context handle k₀ k = (k ≤ 3) × (lowestWith (tableOf context) handle ≡ firstFrom (holdsAt (tableOf context) handle) k (3 - k))
-
-abbrev μ-loop : tie.MeasureT-loop
-μ-loop context handle k₀ k = 3 - k
-
-loop-holds : tie.Need-loop-holds Inv-loop μ-loop
-loop-holds c = (omega arith, first-start _ _)
-
-holds-at-requires : tie.Need-holds-at-requires Inv-loop μ-loop
+holds-at-requires : tie.Need-holds-at-requires
 holds-at-requires c κs = search needs
 
-cast-result : tie.Need-cast-result Inv-loop μ-loop
-cast-result c = search needs
+returns : tie.Need-returns
+unfolding firstFrom
+returns c = rw (sym (c .before .holds-at .ensures) ∙ c .if1 .taken)
 
-returns : tie.Need-returns Inv-loop μ-loop
-returns c = (sym (c .before .before .before .loop .inv .1 ∙ first-here _ _ _ (c .before .before .loop-test .taken) (sym (c .before .holds-at .ensures) ∙ c .if1 .taken)), omega arith)
+holds-at-requires-2 : tie.Need-holds-at-requires-2
+holds-at-requires-2 c κs = search needs
 
-add-k : tie.Need-add-k Inv-loop μ-loop
-add-k c = search needs
+returns-2 : tie.Need-returns-2
+unfolding firstFrom
+returns-2 c =
+    let first = c .before .before in
+    rw (sym (first .before .holds-at .ensures) ∙ first .if1 .left, sym (c .before .holds-at2 .ensures) ∙ c .if2 .taken)
 
-loop-less : tie.Need-loop-less Inv-loop μ-loop
-loop-less c = search needs
+holds-at-requires-3 : tie.Need-holds-at-requires-3
+holds-at-requires-3 c κs = search needs
 
-loop-again : tie.Need-loop-again Inv-loop μ-loop
-loop-again c = (omega arith, c .before .before .before .loop .inv .1 ∙ first-next _ _ _ (c .before .before .loop-test .taken) (sym (c .before .holds-at .ensures) ∙ c .if1 .left))
+returns-3 : tie.Need-returns-3
+unfolding firstFrom
+returns-3 c =
+    let second = c .before .before in
+    let first = second .before .before in
+    rw (
+      sym (first .before .holds-at .ensures) ∙ first .if1 .left,
+      sym (second .before .holds-at2 .ensures) ∙ second .if2 .left,
+      sym (c .before .holds-at3 .ensures) ∙ c .if3 .taken,
+    )
 
-returns-2 : tie.Need-returns-2 Inv-loop μ-loop
-returns-2 c = (sym (c .before .loop .inv .1 ∙ first-end _ _ _ (omega arith)), omega arith)
+returns-4 : tie.Need-returns-4
+unfolding firstFrom
+returns-4 c =
+    let second = c .before .before in
+    let first = second .before .before in
+    rw (
+      sym (first .before .holds-at .ensures) ∙ first .if1 .left,
+      sym (second .before .holds-at2 .ensures) ∙ second .if2 .left,
+      sym (c .before .holds-at3 .ensures) ∙ c .if3 .left,
+    )
 
 pub lowest-with-spec : {M : Type 1} → statement M
 lowest-with-spec =
     tie.close
     (tie.spec
-    Inv-loop
-    μ-loop
-    loop-holds
     holds-at-requires
-    cast-result
     returns
-    add-k
-    loop-less
-    loop-again
-    returns-2)
+    holds-at-requires-2
+    returns-2
+    holds-at-requires-3
+    returns-3
+    returns-4)

@@ -18,7 +18,7 @@ one-number-requires c κs = search needs
 returns : tie.Need-returns
 returns c =
     let found = c .before .before in
-    rw (c .one-number .ensures, c .before .next-number .ensures, found .lowest-with .ensures .0, found .before .handle-of .ensures)
+    rw (c .one-number .ensures, c .before .next-number .ensures, found .lowest-with .ensures, found .before .handle-of .ensures)
 
 pub rotate-effect-spec : {M : Type 1} → statement M
 rotate-effect-spec =
