@@ -129,8 +129,9 @@ lastLoadDone (g ∷ orders) k = cond (names (g .order) k) (loads (g .order) && i
 
 -- ---- the claim
 
--- an empty context: all places are empty and no reply is awaited. It has the words of the cache, as every lent context has, which is an
--- array of 33; of a shorter list the claim below would be false, since what is stored past its end is lost
+-- an empty context: all places are empty and no reply is awaited. It has the words of the cache, the first 33, as every lent context has,
+-- which is an array of 38; of a shorter list the claim below would be false, since what is stored past its end is lost. A table is not asked
+-- for (request P6): without one every mailbox command is refused, and the claim holds too
 pub record EmptyContext (context : List ℕ) : Type 0 where
   pub at-rest : AtRest (cacheOf context)
   pub long : Long context
