@@ -193,6 +193,10 @@ u32-length (f ∷ fields) n =
     let both = neither (same Mek f) (among Mek fields) n in
     rw (both .0) (omega (arith, u32-length fields (both .1)))
 
+-- EHDL's: "24, 32 or 40 bytes"
+pub list-bytes : (numbers : Numbers) → numbers .first ≤ 3 → lengthOf (responseFields Ehdl numbers) ≡ 16 + 8 * numbers .first
+list-bytes numbers l = omega (arith, u32-length (responseFields Ehdl numbers) (no-mek Ehdl numbers), list-long (numbers .first) l)
+
 u32-sized : (fields : List Field) (numbers : List ℕ) → among Mek fields ≡ false → length fields ≤ length numbers → sized fields (map bytes4 numbers) ≡ true
 u32-sized [] numbers n l = refl
 u32-sized (f ∷ fields) [] n l = absurd (omega arith)

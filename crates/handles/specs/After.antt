@@ -1,19 +1,15 @@
 -- What a rotation and a fresh table leave: the table afterwards, and all that stores behind the cache keep. Assumes nothing.
-use Prim.Native.Nat.{ℕ, zero, suc, _+_, _*_, _/_, _%_, _^_, _≤_, _<_}
-use mathlib.Core.Path.{_≡_, refl, sym, ap, ap₂, subst, _∙_}
-use mathlib.Core.Logic.{⊎-elim}
-use mathlib.Core.Bool.{true, false, not}
-use mathlib.Core.List.{List, [], _∷_}
+use Prim.Native.Nat.{ℕ, _+_, _^_, _≤_, _<_}
+use mathlib.Core.Path.{_≡_, sym, ap, _∙_}
+use mathlib.Core.List.{List}
 use native.Mathlib.Omega.{arith}
-use native.Mathlib.Nat.{not-suc-le-zero, le-of-suc-le-suc}
 use lib.Dec.{ltb}
 use lib.ListN.{length, getD, set, take, drop, length-set, length-drop}
 use lib.Seq.{getD-set-same, getD-set-other, getD-drop, drop-drop}
-use borrow.Author.Tests.{eqb-true, eq-eqb, ne-eqb, not-false}
 use Rattle.laws.specs.Tests.{cond-keeps}
 use Rattle.context.specs.Context.{countAt, entriesAt, greatestAt, part}
-use Rattle.handles.specs.Handles.{most, entryOf, handleOf, algorithmOf, Table, Long, tableOf, handleAt, algorithmAt, handlesIn, rotated, rotatedAt}
-use Rattle.handles.specs.Making.{isAmong, distinct, largest, entryFrom, made}
+use Rattle.handles.specs.Handles.{most, entryOf, handleOf, algorithmOf, Long, tableOf, handleAt, algorithmAt, rotated, rotatedAt}
+use Rattle.handles.specs.Making.{made}
 use Rattle.handles.specs.Laws.{count-read, greatest-read, entry-read, rotated-in}
 
 -- ---- an entry's handle and algorithm
@@ -71,7 +67,7 @@ module _ (k number : ℕ) (context : List ℕ) (long : Long context) (l : k < mo
 
   -- the words
   stored-long : Long stored
-  stored-long = rw (length-set context (entriesAt + k) entry) long
+  stored-long = store-long context (entriesAt + k) entry (omega arith) long
 
   pub rotated-count : tableOf (rotatedAt k number context) .count ≡ tableOf context .count
   rotated-count =

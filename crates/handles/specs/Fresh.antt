@@ -3,7 +3,7 @@
 use Prim.Native.Nat.{ℕ, zero, suc, _+_, _^_, _≤_, _<_}
 use mathlib.Core.Path.{_≡_, refl, sym, ap, ap₂, subst, _∙_}
 use mathlib.Core.Logic.{⊎-elim}
-use mathlib.Core.Bool.{Bool, true, false, cond, not, _||_, false≢true}
+use mathlib.Core.Bool.{Bool, true, false, not, _||_, false≢true}
 use mathlib.Core.List.{List, [], _∷_, map}
 use native.Mathlib.Omega.{arith}
 use native.Mathlib.Nat.{not-suc-le-zero, le-of-suc-le-suc}
@@ -11,13 +11,13 @@ use lib.Dec.{eqb, ltb}
 use lib.ListN.{length, getD, take, set, length-set}
 use lib.Seq.{getD-set-same, getD-set-other, drop-cons}
 use borrow.Author.Tests.{eqb-true, eq-eqb, lt-ltb, le-leb, ltb-true, ltb-false, not-false, not-true}
-use Rattle.laws.specs.Tests.{and, decided, neither, not-yes, cond-keeps}
-use Rattle.laws.specs.Refusals.{Past}
+use Rattle.laws.specs.Tests.{and, decided, not-yes, cond-keeps}
+use Rattle.laws.specs.Refusals.{testAt, Past}
 use Rattle.context.specs.Context.{countAt, entriesAt, greatestAt}
 use Rattle.context.specs.State.{Outcome, outcome}
 use Rattle.handles.specs.declared.Answer.{Answer}
-use Rattle.handles.specs.declared.Answer.the-variants.{Made}
-use Rattle.handles.specs.Handles.{most, countGood, entryOf, handleOf, algorithmOf, Table, Long, tableOf, handleAt, algorithmAt, handlesIn}
+use Rattle.handles.specs.declared.Answer.the-variants.{Made, Refused}
+use Rattle.handles.specs.Handles.{most, countGood, handleOf, algorithmOf, Table, Long, tableOf, handleAt, algorithmAt, handlesIn}
 use Rattle.handles.specs.Making.{isAmong, distinct, greater, largest, Fresh, entryFrom, made, makingTests, makingOf}
 use Rattle.handles.specs.Laws.{count-read, greatest-read, good-most, making-past, making-made, making-elim}
 use Rattle.handles.specs.After.{store-long, entry-handle, entry-algorithm, made-keeps}
@@ -126,12 +126,17 @@ module _ (handles algorithms context : List ℕ) (long : Long context) where
   abbrev three : List ℕ
   three = set two (entriesAt + 2) (entryFrom handles algorithms 2)
 
+  counted-long : Long counted
+  counted-long = store-long context countAt (length handles) (omega arith) long
+
   one-long : Long one
-  one-long = rw (length-set counted entriesAt (entryFrom handles algorithms 0), length-set context countAt (length handles)) long
+  one-long = store-long counted entriesAt (entryFrom handles algorithms 0) (omega arith) counted-long
+
+  two-long : Long two
+  two-long = store-long one (entriesAt + 1) (entryFrom handles algorithms 1) (omega arith) one-long
 
   three-long : Long three
-  three-long =
-      rw (length-set two (entriesAt + 2) (entryFrom handles algorithms 2), length-set one (entriesAt + 1) (entryFrom handles algorithms 1)) one-long
+  three-long = store-long two (entriesAt + 2) (entryFrom handles algorithms 2) (omega arith) two-long
 
   pub made-greatest : tableOf (made handles algorithms context) .greatest ≡ largest handles
   unfolding made
@@ -154,12 +159,12 @@ module _ (handles algorithms context : List ℕ) (long : Long context) where
       let first = getD-set-other three greatestAt entriesAt (largest handles) 0 (λ e. omega arith)
       ∙ getD-set-other two (entriesAt + 2) entriesAt _ 0 (λ e. omega arith)
       ∙ getD-set-other one (entriesAt + 1) entriesAt _ 0 (λ e. omega arith)
-      ∙ getD-set-same counted entriesAt (entryFrom handles algorithms 0) 0 (omega (arith, length-set context countAt (length handles))) in
+      ∙ getD-set-same counted entriesAt (entryFrom handles algorithms 0) 0 (omega (arith, counted-long)) in
       let second = getD-set-other three greatestAt (entriesAt + 1) (largest handles) 0 (λ e. omega arith)
       ∙ getD-set-other two (entriesAt + 2) (entriesAt + 1) _ 0 (λ e. omega arith)
       ∙ getD-set-same one (entriesAt + 1) (entryFrom handles algorithms 1) 0 (omega (arith, one-long)) in
       let third = getD-set-other three greatestAt (entriesAt + 2) (largest handles) 0 (λ e. omega arith)
-      ∙ getD-set-same two (entriesAt + 2) (entryFrom handles algorithms 2) 0 (omega (arith, one-long, length-set one (entriesAt + 1) (entryFrom handles algorithms 1))) in
+      ∙ getD-set-same two (entriesAt + 2) (entryFrom handles algorithms 2) 0 (omega (arith, two-long)) in
       three-entries (made handles algorithms context) made-long ∙ rw (first, second, third)
 
   -- the handles are those given, where they are numbers of 32 bits, which they are by their type
@@ -195,7 +200,8 @@ module _ (handles algorithms context : List ℕ) (long : Long context) where
         let same = made-handles (good-most (length handles) g) in
         record { long = made-long; counted = rw made-count g; apart = rw same d; largest-given = made-greatest ∙ ap largest (sym same) }
 
--- ---- a table is made exactly "in a context that has none (count 0), from one to three distinct handles with their algorithms"
+-- ---- a table is made exactly, in the words of the request's issue, "in a context that has none (count 0), from one to three distinct handles
+-- with their algorithms"
 
 pub record MayMake (handles algorithms context : List ℕ) : Type 0 where
   pub none-yet : tableOf context .count ≡ 0
@@ -205,11 +211,8 @@ pub record MayMake (handles algorithms context : List ℕ) : Type 0 where
   pub apart : (j k : ℕ) → j < k → k < length handles → getD handles j 0 ≡ getD handles k 0 → ⊥
 
 module _ (handles algorithms context : List ℕ) where
-  pub made-may : makingOf handles algorithms context .told ≡ Made → MayMake handles algorithms context
-  made-may =
-      making-elim handles algorithms context (λ (o : Outcome Answer (List ℕ)). o .told ≡ Made → MayMake handles algorithms context)
-      (λ e. absurd (let z : _≡_ {A = ℕ} 0 1 = cc in omega arith))
-      (λ none e.
+  passed-may : ((k : ℕ) → testAt (makingTests handles algorithms context) k ≡ false) → MayMake handles algorithms context
+  passed-may none =
       let good = not-false _ (none 1) in
       record {
         none-yet = eqb-true _ _ (not-false _ (none 0));
@@ -217,7 +220,12 @@ module _ (handles algorithms context : List ℕ) where
         most-three = good-most (length handles) good;
         paired = eqb-true _ _ (not-false _ (none 2));
         apart = distinct-tells handles (not-false _ (none 3));
-      })
+      }
+
+  -- "anything else .. is refused 2 and changes nothing"
+  pub else-refused : (MayMake handles algorithms context → ⊥) → makingOf handles algorithms context ≡ outcome (Refused 2) context
+  else-refused o =
+      making-elim handles algorithms context (λ (r : Outcome Answer (List ℕ)). r ≡ outcome (Refused 2) context) refl (λ none. absurd (o (passed-may none)))
 
   pub may-made : MayMake handles algorithms context → makingOf handles algorithms context ≡ outcome Made (made handles algorithms context)
   may-made m =

@@ -50,7 +50,8 @@ made handles algorithms context =
     let three : List ℕ = set two (entriesAt + 2) (entryFrom handles algorithms 2) in
     set three greatestAt (largest handles)
 
--- made "in a context that has none (count 0), from one to three distinct handles with their algorithms"; "anything else" is 2
+-- ours, in the words of the request's issue: made "in a context that has none (count 0), from one to three distinct handles with their
+-- algorithms"; "anything else" is 2
 abbrev pub makingTests : (handles algorithms context : List ℕ) → List (Bool × ℕ)
 makingTests handles algorithms context =
     (not (eqb (tableOf context .count) 0), 2)

@@ -1,10 +1,9 @@
 // The table of transport handles: one to three, each a number of 32 bits with its algorithm, and the
 // greatest number ever given. It lies in its part of the context, and no function here changes another
 // part of it. A fresh table is made once, in a context that has none; a rotation gives a handle the
-// number above the greatest, so that no number is given twice (`history` `Handles`). Every public
-// function answers for any words, two of them where the caller has asked for a table or for a number
-// that is left. The definitions are in `specs/Handles` and `specs/Making`, the laws for callers in
-// `specs/Laws`. It rests on `context` and `laws`.
+// number above the greatest, so that no number is given twice (`history` `Handles`). The functions answer
+// for any words, but `count_of` asks for a table and `next_number` for a number that is left. The definitions are in `specs/Handles` and `specs/Making`, the laws for callers in
+// `specs/Laws`, `After` and `Fresh`. It rests on `context` and `laws`.
 use context::Context;
 ghost use mathlib.Core.Path.{_≡_};
 ghost use mathlib.Core.Bool.{true, false};
@@ -23,6 +22,9 @@ const LAST_NUMBER: u64 = 0xFFFF_FFFF;
 
 // An entry has its handle below, its algorithm above 32 bits.
 const ALGORITHM: u64 = 0x1_0000_0000;
+
+// The refusal of what makes no fresh table.
+const NO_FRESH_TABLE: u32 = 2;
 
 // That the table was made, or the refusal's number.
 pub enum Answer {
@@ -199,16 +201,16 @@ fn making_refusal(context: &Context, handles: &[u32], algorithms: &[u32]) -> u32
     ensures { λ r. ⌜ r ≡ numberOf (makingTests (now (handles .entry)) (now (algorithms .entry)) (now (context .entry))) ⌝ }
 {
     if context[context::COUNT] != 0 {
-        return 2;
+        return NO_FRESH_TABLE;
     }
     if !is_count(handles.len() as u64) {
-        return 2;
+        return NO_FRESH_TABLE;
     }
     if algorithms.len() != handles.len() {
-        return 2;
+        return NO_FRESH_TABLE;
     }
     if !are_distinct(handles) {
-        return 2;
+        return NO_FRESH_TABLE;
     }
     0
 }

@@ -31,7 +31,7 @@ use Rattle.mailbox.specs.Laws.{fers-context}
 use Rattle.mailbox.specs.Mailbox.{refused, fersOf, partitionIn, accepted, mailboxTests, doneOf, contextAfter, responseAfter, replyOf, Lent, lent, writtenOut}
 use Rattle.history.specs.Calls.{Call, Direct, Erase, EraseCut, Mailbox, TakeReply, MakeTable, Restart, Told, Replying, lengthIn, replying, told, refusal, after}
 use Rattle.history.specs.Demand3.{Attempt, withBuffers, SameLengths}
-use Rattle.history.specs.Kept.{emptied-table}
+use Rattle.history.specs.Kept.{erase-leaves, emptied-table}
 use Rattle.history.specs.Forms.{Does, Quiet, quiet, arrays-same, places-same, busy-same, table-same, Ready, whole-at, Form, refuses, runs, erase-form, cut-uncut}
 
 -- ---- FERS, on the partition p that its request names
@@ -156,11 +156,9 @@ pub record Rested (before context : List ℕ) : Type 0 where
   pub rest : AtRest (cacheOf context)
   pub table : tableOf context ≡ tableOf before
 
-rest-erased : (image marks : List ℕ) (i k mask : ℕ) (s : State) → AtRest (cacheOf (s .context)) → Rested (s .context) (eraseOf image marks i k mask s .after .context)
-unfolding eraseOf
-rest-erased image marks i k mask s h =
-    first-elim (λ (o : Outcome Answer State). Rested (s .context) (o .after .context)) (refusing unburned s) (eraseTests image marks i s) (burning image marks i k mask s)
-    (λ n _. record { rest = h; table = refl }) (λ none. record { rest = h; table = refl })
+rest-erased : (image marks : List ℕ) (i k mask : ℕ) (s : State) → AtRest (cacheOf (s .context))
+    → Rested (s .context) (eraseOf image marks i k mask s .after .context)
+rest-erased image marks i k mask s h = subst (Rested (s .context)) (sym (erase-leaves image marks s i k mask)) (record { rest = h; table = refl })
 
 pub rest-after : (image marks : List ℕ) (i : ℕ) (call : Call) (s : State) → Attempt image marks i call s → AtRest (cacheOf (s .context))
     → Rested (s .context) (after image marks call s .context)

@@ -34,7 +34,7 @@ module _ (image marks : List ℕ) (i : ℕ) (start : State) where
   -- ---- every history
 
   reached-restart : (s : State) → Reached image marks i start s → Reached image marks i start (after image marks Restart s)
-  reached-restart s r = reached-same image marks i start s (after image marks Restart s) r refl (record { rest = emptied-rest (s .context); table = emptied-table (s .context) })
+  reached-restart s r = reached-same image marks i start s (after image marks Restart s) r refl (record { rest = emptied-rest _; table = emptied-table _ })
 
   reached-call : (call : Call) (s : State) → Reached image marks i start s → Attempt image marks i call s ⊎ (call ≡ Restart) → Reached image marks i start (after image marks call s)
   reached-call call s r (inl a) = reached-attempt image marks i start call s r a

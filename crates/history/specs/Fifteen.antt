@@ -27,7 +27,7 @@ use Rattle.mailbox.specs.Laws.{fers-or-plain}
 use Rattle.mailbox.specs.Told.{mailbox-elim}
 use Rattle.mailbox.specs.Mailbox.{refused, fersOf, partitionIn, accepted, doneOf, replyOf}
 use Rattle.history.specs.Calls.{Call, Direct, Erase, EraseCut, Mailbox, TakeReply, MakeTable, Restart, Erasing, Replying, told, refusal}
-use Rattle.history.specs.Refused.{reply-number, direct-stays, reply-stays, table-stays}
+use Rattle.history.specs.Refused.{reply-number, direct-stays, reply-stays, making-stays}
 
 -- ---- the claim
 
@@ -152,6 +152,6 @@ fifteen image marks s (TakeReply reply) = record {
 }
 fifteen image marks s (MakeTable handles algorithms) = record {
   exactly = λ i e. absurd e;
-  only = λ z. absurd (table-stays image marks s handles algorithms (omega arith) .1 z);
+  only = λ z. absurd (making-stays image marks s handles algorithms (omega arith) .1 z);
 }
 fifteen image marks s Restart = record { exactly = λ i e. absurd e; only = λ z. absurd (omega arith) }

@@ -16,7 +16,7 @@ use Rattle.context.specs.State.{State, Outcome, outcome}
 use Rattle.cache.specs.Cache.{cacheOf, loadReply, unloadReply, emptied}
 use Rattle.cache.specs.Laws.{waiting-behind, clearing-behind, settled-behind, emptied-behind}
 use Rattle.handles.specs.declared.Answer.{Answer as TableAnswer}
-use Rattle.handles.specs.Handles.{most, countGood, Long, tableOf, hasTable, handleAt, handlesIn, lowestWith, usedUp, nextNumber, rotatedAt}
+use Rattle.handles.specs.Handles.{most, countGood, Table, Long, tableOf, hasTable, handleAt, handlesIn, lowestWith, usedUp, nextNumber, rotatedAt}
 use Rattle.handles.specs.Making.{isAmong, distinct, Fresh}
 use Rattle.handles.specs.Laws.{good-most, next-fits, Lowest, lowest-tells, making-elim}
 use Rattle.handles.specs.After.{store-long, table-behind, long-behind, rotated-keeps, rotated-count, rotated-greatest, rotated-handle, rotated-other}
@@ -49,18 +49,33 @@ pub data Step (before after : List ℕ) (given : List ℕ) : Type 0 where
 
 -- ---- what is kept
 
-pub record Sound (numbers context : List ℕ) : Type 0 where
-  pub long : Long context
-  pub counted : hasTable (tableOf context) ≡ true
-  pub none-twice : distinct numbers ≡ true
-  pub none-above : (number : ℕ) → isAmong number numbers ≡ true → number ≤ tableOf context .greatest
-  pub all-given : (k : ℕ) → k < tableOf context .count → isAmong (handleAt (tableOf context) k) numbers ≡ true
+-- a table is there, in a context that has its words, as every lent one has
+record Tabled (context : List ℕ) : Type 0 where
+  long : Long context
+  counted : hasTable (tableOf context) ≡ true
+
+tabled-same : (before after : List ℕ) → drop countAt after ≡ drop countAt before → Tabled before → Tabled after
+tabled-same before after e t = record { long = long-behind before after e (t .long); counted = rw (table-behind before after e) (t .counted) }
+
+tabled-rotated : (k number : ℕ) (before : List ℕ) → k < most → Tabled before → Tabled (rotatedAt k number before)
+tabled-rotated k number before l t =
+    record { long = rotated-keeps Long store-long before (t .long) k number; counted = rw (rotated-count k number before (t .long) l) (t .counted) }
+
+-- no table is made where one is
+no-table : (context : List ℕ) → tableOf context .count ≡ 0 → Tabled context → ⊥
+no-table context none t = false≢true (sym (ap countGood none) ∙ t .counted)
+
+-- the numbers so far: none twice, none above the greatest, and every handle of the table is one of them
+record SoFar (numbers context : List ℕ) : Type 0 where
+  tabled : Tabled context
+  none-twice : distinct numbers ≡ true
+  none-above : (number : ℕ) → isAmong number numbers ≡ true → number ≤ tableOf context .greatest
+  all-given : (k : ℕ) → k < tableOf context .count → isAmong (handleAt (tableOf context) k) numbers ≡ true
 
 -- a fresh table
-sound-start : (context : List ℕ) → Fresh context → Sound (handlesIn (tableOf context)) context
-sound-start context f = record {
-  long = f .long;
-  counted = f .counted;
+so-far-start : (context : List ℕ) → Fresh context → SoFar (handlesIn (tableOf context)) context
+so-far-start context f = record {
+  tabled = record { long = f .long; counted = f .counted };
   none-twice = f .apart;
   none-above = λ number a. rw (f .largest-given) (largest-most (handlesIn (tableOf context)) number a);
   all-given = λ k l. handle-among (tableOf context) k l (rw (entries-long context (f .long)) (omega (arith, good-most (tableOf context .count) (f .counted))));
@@ -70,18 +85,12 @@ sound-start context f = record {
 is-new : (number : ℕ) (numbers : List ℕ) → ((n : ℕ) → isAmong n numbers ≡ true → n < number) → isAmong number numbers ≡ false
 is-new number numbers above = not-yes (isAmong number numbers) (λ a. omega (arith, above number a))
 
-module _ (numbers before : List ℕ) (s : Sound numbers before) where
+module _ (numbers before : List ℕ) (s : SoFar numbers before) where
   -- the table stays
-  sound-same : (after : List ℕ) → drop countAt after ≡ drop countAt before → Sound numbers after
-  sound-same after e =
+  so-far-same : (after : List ℕ) → drop countAt after ≡ drop countAt before → SoFar numbers after
+  so-far-same after e =
       let same = table-behind before after e in
-      record {
-        long = long-behind before after e (s .long);
-        counted = rw same (s .counted);
-        none-twice = s .none-twice;
-        none-above = rw same (s .none-above);
-        all-given = rw same (s .all-given);
-      }
+      record { tabled = tabled-same before after e (s .tabled); none-twice = s .none-twice; none-above = rw same (s .none-above); all-given = rw same (s .all-given) }
 
   -- a handle gets the next number
   module _ (k : ℕ) (l : k < most) (left : usedUp (tableOf before) ≡ false) where
@@ -94,10 +103,10 @@ module _ (numbers before : List ℕ) (s : Sound numbers before) where
     given-now : (j : ℕ) → j < tableOf before .count → isAmong (handleAt (tableOf rotatedNow) j) (next ∷ numbers) ≡ true
     given-now j m =
         ⊎-elim
-        (λ (y : eqb j k ≡ true). rw (eqb-true j k y, rotated-handle k next before (s .long) l (next-fits (tableOf before) left)) (among-here next numbers))
+        (λ (y : eqb j k ≡ true). rw (eqb-true j k y, rotated-handle k next before (s .tabled .long) l (next-fits (tableOf before) left)) (among-here next numbers))
         (λ (o : eqb j k ≡ false).
-        let within : j < most = omega (arith, good-most (tableOf before .count) (s .counted)) in
-        rw (rotated-other k next before (s .long) l j within (eqb-false j k o)) (among-after next (handleAt (tableOf before) j) numbers (s .all-given j m)))
+        let within : j < most = omega (arith, good-most (tableOf before .count) (s .tabled .counted)) in
+        rw (rotated-other k next before (s .tabled .long) l j within (eqb-false j k o)) (among-after next (handleAt (tableOf before) j) numbers (s .all-given j m)))
         (decided (eqb j k))
 
     above-now : (number : ℕ) → isAmong number (next ∷ numbers) ≡ true → number ≤ next
@@ -107,20 +116,19 @@ module _ (numbers before : List ℕ) (s : Sound numbers before) where
         (λ (o : eqb number next ≡ false). omega (arith, s .none-above number (rw o at a)))
         (decided (eqb number next))
 
-    sound-rotated : Sound (next ∷ numbers) rotatedNow
-    sound-rotated = record {
-      long = rotated-keeps Long store-long before (s .long) k next;
-      counted = rw (rotated-count k next before (s .long) l) (s .counted);
+    so-far-rotated : SoFar (next ∷ numbers) rotatedNow
+    so-far-rotated = record {
+      tabled = tabled-rotated k next before l (s .tabled);
       none-twice = rw (is-new next numbers (λ n a. omega (arith, s .none-above n a))) (s .none-twice);
-      none-above = rw (rotated-greatest k next before (s .long) l) above-now;
-      all-given = rw (rotated-count k next before (s .long) l) given-now;
+      none-above = rw (rotated-greatest k next before (s .tabled .long) l) above-now;
+      all-given = rw (rotated-count k next before (s .tabled .long) l) given-now;
     }
 
   -- so each step
-  sound-step : (after given : List ℕ) → Step before after given → Sound (given ++ numbers) after
-  sound-step after given (keeps e none) = rw none (sound-same after e)
-  sound-step after given (rotates handle found left e is) = rw (e, is) (sound-rotated (lowestWith (tableOf before) handle) (found .within) left)
-  sound-step after given (makes none) = absurd (false≢true (sym (ap countGood none) ∙ s .counted))
+  so-far-step : (after given : List ℕ) → Step before after given → SoFar (given ++ numbers) after
+  so-far-step after given (keeps e none) = rw none (so-far-same after e)
+  so-far-step after given (rotates handle found left e is) = rw (e, is) (so-far-rotated (lowestWith (tableOf before) handle) (found .within) left)
+  so-far-step after given (makes none) = absurd (no-table before none (s .tabled))
 
 -- ---- the step of each call
 
@@ -188,20 +196,20 @@ module _ (image marks : List ℕ) (s : State) where
 
 -- ---- every list of calls
 
-sound-all : (image marks : List ℕ) (calls : List Call) (s : State) (numbers : List ℕ) → Sound numbers (s .context)
-    → Sound (givenAll image marks calls s numbers) (afterAll image marks calls s .context)
-sound-all image marks [] s numbers sound = sound
-sound-all image marks (call ∷ calls) s numbers sound =
+so-far-all : (image marks : List ℕ) (calls : List Call) (s : State) (numbers : List ℕ) → SoFar numbers (s .context)
+    → SoFar (givenAll image marks calls s numbers) (afterAll image marks calls s .context)
+so-far-all image marks [] s numbers sound = sound
+so-far-all image marks (call ∷ calls) s numbers sound =
     let now = after image marks call s in
     let given = givenBy call (told image marks call s) in
-    sound-all image marks calls now (given ++ numbers) (sound-step numbers (s .context) sound (now .context) given (call-step image marks s call))
+    so-far-all image marks calls now (given ++ numbers) (so-far-step numbers (s .context) sound (now .context) given (call-step image marks s call))
 
 pub numbers-once : NumbersOnce
 numbers-once image marks start fresh calls =
-    let sound = sound-all image marks calls start (handlesIn (tableOf (start .context))) (sound-start (start .context) fresh) in
+    let sound = so-far-all image marks calls start (handlesIn (tableOf (start .context))) (so-far-start (start .context) fresh) in
     record { none-twice = sound .none-twice; all-given = sound .all-given }
 
--- ---- a table that is made is fresh, and one that is there stays: its count does not change
+-- ---- a table that is made is fresh: of handles of 32 bits, as they are by their type, in a context that has the words of a table
 
 pub made-is-fresh : (image marks handles algorithms : List ℕ) (s : State) → Long (s .context) → ((k : ℕ) → k < length handles → getD handles k 0 < 2 ^ 32)
     → refusal (told image marks (MakeTable handles algorithms) s) ≡ 0 → Fresh (after image marks (MakeTable handles algorithms) s .context)
@@ -209,22 +217,25 @@ made-is-fresh image marks handles algorithms s long fits =
     making-elim handles algorithms (s .context) (λ (o : Outcome TableAnswer (List ℕ)). refusal (Making (o .told)) ≡ 0 → Fresh (o .after))
     (λ z. absurd (omega arith)) (λ none _. made-fresh handles algorithms (s .context) long fits (not-false _ (none 1)) (not-false _ (none 3)))
 
-record Tabled (context : List ℕ) : Type 0 where
-  long : Long context
-  counted : hasTable (tableOf context) ≡ true
+-- ---- and one that is there stays, in such a context: its count does not change
 
-step-tabled : (before after given : List ℕ) → Step before after given → Tabled before → Tabled after
-step-tabled before after given (keeps e none) t = record { long = long-behind before after e (t .long); counted = rw (table-behind before after e) (t .counted) }
-step-tabled before after given (rotates handle found left e is) t =
+record Stays (before after : List ℕ) : Type 0 where
+  tabled : Tabled after
+  same-count : tableOf after .count ≡ tableOf before .count
+
+step-stays : (before after given : List ℕ) → Step before after given → Tabled before → Stays before after
+step-stays before after given (keeps e none) t =
+    record { tabled = tabled-same before after e t; same-count = ap (λ (x : Table). x .count) (table-behind before after e) }
+step-stays before after given (rotates handle found left e is) t =
     let k = lowestWith (tableOf before) handle in
     let next = nextNumber (tableOf before) in
-    rw e (record { long = rotated-keeps Long store-long before (t .long) k next; counted = rw (rotated-count k next before (t .long) (found .within)) (t .counted) })
-step-tabled before after given (makes none) t = absurd (false≢true (sym (ap countGood none) ∙ t .counted))
+    rw e (record { tabled = tabled-rotated k next before (found .within) t; same-count = rotated-count k next before (t .long) (found .within) })
+step-stays before after given (makes none) t = absurd (no-table before none t)
 
 pub table-stays : (image marks : List ℕ) (calls : List Call) (s : State) → Long (s .context) → hasTable (tableOf (s .context)) ≡ true
-    → hasTable (tableOf (afterAll image marks calls s .context)) ≡ true
-table-stays image marks [] s long h = h
+    → tableOf (afterAll image marks calls s .context) .count ≡ tableOf (s .context) .count
+table-stays image marks [] s long h = refl
 table-stays image marks (call ∷ calls) s long h =
     let now = after image marks call s in
-    let t = step-tabled (s .context) (now .context) _ (call-step image marks s call) (record { long = long; counted = h }) in
-    table-stays image marks calls now (t .long) (t .counted)
+    let t = step-stays (s .context) (now .context) _ (call-step image marks s call) (record { long = long; counted = h }) in
+    table-stays image marks calls now (t .tabled .long) (t .tabled .counted) ∙ t .same-count

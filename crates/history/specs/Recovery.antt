@@ -17,7 +17,7 @@ use Rattle.cache.specs.Cache.{cacheOf, hasPlace, awaits, busy, AtRest, clearing
 use Rattle.cache.specs.declared.Sought.the-variants.{Waiting}
 use Rattle.cache.specs.Laws.{has-tells}
 use Rattle.cache.specs.After.{is-waiting}
-use Rattle.handles.specs.Handles.{Table, tableOf, hasTable}
+use Rattle.handles.specs.Handles.{countGood, Long as TableThere, tableOf, hasTable}
 use Rattle.engine.specs.declared.EngineReply.{EngineReply}
 use Rattle.engine.specs.declared.EngineReply.the-variants.{Done}
 use Rattle.codec.specs.declared.Command.the-variants.{Clkc}
@@ -33,6 +33,7 @@ use Rattle.history.specs.Kept.{settled-table}
 use Rattle.history.specs.Orders.{Given, ordersAfter, EmptyContext}
 use Rattle.history.specs.Standing.{Standing, idle, awaited, Sound, sound-start, sound-clear}
 use Rattle.history.specs.Settled.{none-awaited, sound-reply, clear-done}
+use Rattle.history.specs.HandlesProof.{table-stays}
 use Rattle.history.specs.OrdersProof.{call-kept, all-kept, open-exactly}
 
 -- CLKC with a timeout of 1,000 and its chksum, and buffers that are long enough
@@ -99,3 +100,10 @@ module _ (image marks : List ℕ) (good : mapGood image ≡ true) where
       → AtRest (cacheOf (afterAll image marks (recovering reply) now .context))
   recovers start e calls arrays table reply =
       recovers-from (afterAll image marks calls start) _ (all-kept image marks calls start [] (sound-start (start .context) e)) arrays table reply
+
+  -- so from every start with all places empty and a table
+  pub recovers-tabled : (start : State) → EmptyContext (start .context) → TableThere (start .context) → hasTable (tableOf (start .context)) ≡ true
+      → (calls : List Call) → let now = afterAll image marks calls start in
+      wholeArrays image (now .cells) marks ≡ true → (reply : EngineReply) → AtRest (cacheOf (afterAll image marks (recovering reply) now .context))
+  recovers-tabled start e long table calls arrays reply =
+      recovers start e calls arrays (ap countGood (table-stays image marks calls start long table) ∙ table) reply

@@ -147,9 +147,9 @@ module _ (image marks : List ℕ) (s : State) where
       (λ _ l. (refl, λ e. omega arith)) (λ _ l. absurd (omega arith))
 
   -- and so a table that is refused
-  pub table-stays : (handles algorithms : List ℕ) → let o = makingOf handles algorithms (s .context) in
+  pub making-stays : (handles algorithms : List ℕ) → let o = makingOf handles algorithms (s .context) in
       1 ≤ refusal (Making (o .told)) → (withContext (o .after) s ≡ s) × (refusal (Making (o .told)) ≡ 15 → ⊥)
-  table-stays handles algorithms =
+  making-stays handles algorithms =
       making-elim handles algorithms (s .context)
       (λ (o : Outcome TableAnswer (List ℕ)). 1 ≤ refusal (Making (o .told)) → (withContext (o .after) s ≡ s) × (refusal (Making (o .told)) ≡ 15 → ⊥))
       (λ l. (refl, λ e. omega arith)) (λ _ l. absurd (omega arith))
@@ -161,7 +161,7 @@ module _ (image marks : List ℕ) (s : State) where
   refused-unchanged (EraseCut i k mask) = λ l. let both = erase-stays i k mask l in rw (both .1) (both .0)
   refused-unchanged (Mailbox code request response block) = mailbox-stays code request (length response) (length block)
   refused-unchanged (TakeReply reply) = λ l. reply-stays reply l .0
-  refused-unchanged (MakeTable handles algorithms) = λ l. table-stays handles algorithms l .0
+  refused-unchanged (MakeTable handles algorithms) = λ l. making-stays handles algorithms l .0
   refused-unchanged Restart = λ l. absurd (omega arith)
 
 -- of the mailbox also response and block, whatever the refusal

@@ -1,18 +1,13 @@
 -- Request P6: what EHDL and RHPK tell and leave, in any table, also one that is not fresh. Assumes nothing.
-use Prim.Native.Nat.{ℕ, zero, suc, _+_, _^_, _≤_, _<_}
-use mathlib.Core.Path.{_≡_, refl, sym, ap, subst, _∙_}
-use mathlib.Core.Logic.{⊎-elim}
-use mathlib.Core.Bool.{true, false, cond, not, false≢true}
+use Prim.Native.Nat.{ℕ, zero, suc, _+_, _*_, _≤_, _<_}
+use mathlib.Core.Path.{_≡_, refl, sym, subst, _∙_}
+use mathlib.Core.Bool.{true}
 use mathlib.Core.List.{List}
 use native.Mathlib.Omega.{arith}
-use lib.Dec.{eqb, ltb}
 use lib.ListN.{length, getD}
-use borrow.Author.Tests.{ne-eqb, eqb-true, ltb-true, not-false}
-use Rattle.laws.specs.Tests.{and, decided, not-yes, cond-keeps}
-use Rattle.laws.specs.Below.{first-tells, first-least}
-use Rattle.laws.specs.Refusals.{testAt}
-use Rattle.context.specs.State.{State, Outcome, outcome}
-use Rattle.handles.specs.Handles.{most, Table, Long, tableOf, hasTable, handleAt, algorithmAt, holdsAt, lowestWith, hasHandle, usedUp, nextNumber, rotatedAt}
+use borrow.Author.Tests.{ne-eqb, not-false}
+use Rattle.context.specs.State.{Outcome}
+use Rattle.handles.specs.Handles.{most, Table, Long, tableOf, hasTable, handleAt, algorithmAt, lowestWith, nextNumber, rotatedAt}
 use Rattle.cache.specs.Cache.{cacheOf}
 use Rattle.cache.specs.Laws.{store-behind}
 use Rattle.handles.specs.Laws.{good-most, next-fits, Lowest, lowest-tells}
@@ -22,18 +17,21 @@ use Rattle.engine.specs.declared.Order.the-variants.{Nothing}
 use Rattle.codec.specs.declared.Numbers.{Numbers}
 use Rattle.codec.specs.declared.Command.the-variants.{Ehdl, Rhpk}
 use Rattle.codec.specs.Fields.{Field, Hpke-handle-count, Handle-0, Hpke-algorithm-0, Handle-1, Hpke-algorithm-1, Handle-2, Hpke-algorithm-2, Hpke-handle}
-use Rattle.codec.specs.Fields.{codeOf, among, requestFields, responseFields, numberAt, noNumbers, oneNumber}
-use Rattle.codec.specs.Laws.{response-reads}
+use Rattle.codec.specs.Fields.{codeOf, responseFields, numberAt, noNumbers, oneNumber}
+use Rattle.codec.specs.Laws.{response-reads, list-bytes}
 use Rattle.mailbox.specs.declared.effects.Effect.{Effect}
 use Rattle.mailbox.specs.declared.Reply.{Reply}
-use Rattle.mailbox.specs.declared.Reply.the-variants.{Refused, Accepted}
+use Rattle.mailbox.specs.declared.Reply.the-variants.{Accepted}
 use Rattle.mailbox.specs.Mailbox.{effect, tableNumbers, listOf, handleIn, responseAfter, Lent, lent, writtenOut, mailboxOf}
 use Rattle.mailbox.specs.Laws.{lent-table}
 use Rattle.mailbox.specs.Told.{lent-elim, mailbox-elim, refused-not}
 
--- an accepted call tells one order
+-- an accepted call tells one order and one length
 same-order : {n m : ℕ} {order order′ : Order} → Accepted n order ≡ Accepted m order′ → order ≡ order′
 same-order e = cc
+
+same-length : {n m : ℕ} {order order′ : Order} → Accepted n order ≡ Accepted m order′ → n ≡ m
+same-length e = cc
 
 -- a rotation leaves the cache
 pub rotated-cache : (k number : ℕ) (context : List ℕ) → cacheOf (rotatedAt k number context) ≡ cacheOf context
@@ -68,26 +66,26 @@ Reads t count field value response =
     numberAt (responseFields Ehdl (numbersBy t count)) field (responseAfter (effect Ehdl Nothing 0 (numbersBy t count)) response) ≡ value
 
 module _ (t : Table) (response : List ℕ) where
-  place-reads : (count k : ℕ) → count ≤ 3 → k < count → Reads t count (handleField k) (handleAt t k) response × Reads t count (algorithmField k) (algorithmAt t k) response
-  place-reads zero k l m = absurd (omega arith)
-  place-reads (suc zero) zero l m = let n = numbersBy t 1 in (response-reads Ehdl n _ Handle-0 refl, response-reads Ehdl n _ Hpke-algorithm-0 refl)
-  place-reads (suc zero) (suc k) l m = absurd (omega arith)
-  place-reads (suc (suc zero)) zero l m = let n = numbersBy t 2 in (response-reads Ehdl n _ Handle-0 refl, response-reads Ehdl n _ Hpke-algorithm-0 refl)
-  place-reads (suc (suc zero)) (suc zero) l m = let n = numbersBy t 2 in (response-reads Ehdl n _ Handle-1 refl, response-reads Ehdl n _ Hpke-algorithm-1 refl)
-  place-reads (suc (suc zero)) (suc (suc k)) l m = absurd (omega arith)
-  place-reads (suc (suc (suc zero))) zero l m = let n = numbersBy t 3 in (response-reads Ehdl n _ Handle-0 refl, response-reads Ehdl n _ Hpke-algorithm-0 refl)
-  place-reads (suc (suc (suc zero))) (suc zero) l m = let n = numbersBy t 3 in (response-reads Ehdl n _ Handle-1 refl, response-reads Ehdl n _ Hpke-algorithm-1 refl)
-  place-reads (suc (suc (suc zero))) (suc (suc zero)) l m = let n = numbersBy t 3 in (response-reads Ehdl n _ Handle-2 refl, response-reads Ehdl n _ Hpke-algorithm-2 refl)
-  place-reads (suc (suc (suc zero))) (suc (suc (suc k))) l m = absurd (omega arith)
-  place-reads (suc (suc (suc (suc count)))) k l m = absurd (omega arith)
+  entry-reads : (count k : ℕ) → count ≤ 3 → k < count → Reads t count (handleField k) (handleAt t k) response × Reads t count (algorithmField k) (algorithmAt t k) response
+  entry-reads zero k l m = absurd (omega arith)
+  entry-reads (suc zero) zero l m = let n = numbersBy t 1 in (response-reads Ehdl n _ Handle-0 refl, response-reads Ehdl n _ Hpke-algorithm-0 refl)
+  entry-reads (suc zero) (suc k) l m = absurd (omega arith)
+  entry-reads (suc (suc zero)) zero l m = let n = numbersBy t 2 in (response-reads Ehdl n _ Handle-0 refl, response-reads Ehdl n _ Hpke-algorithm-0 refl)
+  entry-reads (suc (suc zero)) (suc zero) l m = let n = numbersBy t 2 in (response-reads Ehdl n _ Handle-1 refl, response-reads Ehdl n _ Hpke-algorithm-1 refl)
+  entry-reads (suc (suc zero)) (suc (suc k)) l m = absurd (omega arith)
+  entry-reads (suc (suc (suc zero))) zero l m = let n = numbersBy t 3 in (response-reads Ehdl n _ Handle-0 refl, response-reads Ehdl n _ Hpke-algorithm-0 refl)
+  entry-reads (suc (suc (suc zero))) (suc zero) l m = let n = numbersBy t 3 in (response-reads Ehdl n _ Handle-1 refl, response-reads Ehdl n _ Hpke-algorithm-1 refl)
+  entry-reads (suc (suc (suc zero))) (suc (suc zero)) l m = let n = numbersBy t 3 in (response-reads Ehdl n _ Handle-2 refl, response-reads Ehdl n _ Hpke-algorithm-2 refl)
+  entry-reads (suc (suc (suc zero))) (suc (suc (suc k))) l m = absurd (omega arith)
+  entry-reads (suc (suc (suc (suc count)))) k l m = absurd (omega arith)
 
   pub list-reads : hasTable t ≡ true → Lists t (responseAfter (listOf t) response)
   list-reads h =
       let l = good-most (t .count) h in
       record {
         count-reads = response-reads Ehdl (tableNumbers t) _ Hpke-handle-count refl;
-        handle-reads = λ k m. place-reads (t .count) k l m .0;
-        algorithm-reads = λ k m. place-reads (t .count) k l m .1;
+        handle-reads = λ k m. entry-reads (t .count) k l m .0;
+        algorithm-reads = λ k m. entry-reads (t .count) k l m .1;
       }
 
 -- an accepted EHDL tells the table, and leaves everything else
@@ -95,22 +93,32 @@ module _ (image marks request : List ℕ) (l : Lent) where
   abbrev t : Table
   t = tableOf (l .state .context)
 
-  pub record Listed (o : Outcome Reply Lent) (order : Order) : Type 0 where
+  pub record Listed (o : Outcome Reply Lent) (n : ℕ) (order : Order) : Type 0 where
+    -- "24, 32 or 40 bytes"
+    pub bytes : n ≡ 16 + 8 * t .count
     pub lists : Lists t (o .after .response)
     pub no-order : order ≡ Nothing
     pub state-same : o .after .state ≡ l .state
     pub block-same : o .after .block ≡ l .block
 
   abbrev ListedBy : Outcome Effect (List ℕ) → Type 0
-  ListedBy d = (n : ℕ) (order : Order) → writtenOut request l d .told ≡ Accepted n order → Listed (writtenOut request l d) order
+  ListedBy d = (n : ℕ) (order : Order) → writtenOut request l d .told ≡ Accepted n order → Listed (writtenOut request l d) n order
 
-  pub list-tells : let o = mailboxOf image marks (codeOf Ehdl) request l in (n : ℕ) (order : Order) → o .told ≡ Accepted n order → Listed o order
+  pub list-tells : let o = mailboxOf image marks (codeOf Ehdl) request l in (n : ℕ) (order : Order) → o .told ≡ Accepted n order → Listed o n order
   list-tells =
       let room = length (l .response) in
       let long = length (l .block) in
       lent-elim image marks (codeOf Ehdl) request room long (l .state) ListedBy
       (λ n o _ m order e. refused-not (rw (ne-eqb n 0 o) at e))
-      (λ good _ _ _ none n order e. record { lists = list-reads t (l .response) (lent-table room long (l .state .context) good); no-order = same-order (sym e); state-same = refl; block-same = refl })
+      (λ good _ _ _ none n order e.
+      let table = lent-table room long (l .state .context) good in
+      record {
+        bytes = sym (same-length e) ∙ list-bytes (tableNumbers t) (good-most (t .count) table);
+        lists = list-reads t (l .response) table;
+        no-order = same-order (sym e);
+        state-same = refl;
+        block-same = refl;
+      })
 
 -- ---- RHPK: "replaces one at its place, keeping the algorithm, and the new number is one above the greatest ever given"
 
@@ -121,8 +129,9 @@ module _ (image marks request : List ℕ) (l : Lent) where
   abbrev place : ℕ
   place = lowestWith before (handleIn request)
 
-  -- what an accepted one changes: the handle at the lowest place with it, and the greatest; and nothing else
-  pub record Rotated (o : Outcome Reply Lent) (order : Order) : Type 0 where
+  -- what an accepted one changes, in a context that has the words of a table, as every lent one has (`Long`): the handle at the lowest place with it, and the greatest; and nothing else
+  pub record Rotated (o : Outcome Reply Lent) (n : ℕ) (order : Order) : Type 0 where
+    pub bytes : n ≡ 16
     pub lowest : Lowest before (handleIn request) place
     pub told-number : numberAt (responseFields Rhpk noNumbers) Hpke-handle (o .after .response) ≡ before .greatest + 1
     pub new-handle : handleAt (tableOf (o .after .state .context)) place ≡ before .greatest + 1
@@ -136,10 +145,10 @@ module _ (image marks request : List ℕ) (l : Lent) where
     pub block-same : o .after .block ≡ l .block
 
   abbrev RotatedBy : Outcome Effect (List ℕ) → Type 0
-  RotatedBy d = (n : ℕ) (order : Order) → writtenOut request l d .told ≡ Accepted n order → Rotated (writtenOut request l d) order
+  RotatedBy d = (n : ℕ) (order : Order) → writtenOut request l d .told ≡ Accepted n order → Rotated (writtenOut request l d) n order
 
   pub rotation-changes : Long (l .state .context) → let o = mailboxOf image marks (codeOf Rhpk) request l in
-      (n : ℕ) (order : Order) → o .told ≡ Accepted n order → Rotated o order
+      (n : ℕ) (order : Order) → o .told ≡ Accepted n order → Rotated o n order
   rotation-changes long =
       let context = l .state .context in
       let next = nextNumber before in
@@ -149,6 +158,7 @@ module _ (image marks request : List ℕ) (l : Lent) where
       let found = lowest-tells before (handleIn request) (not-false _ (none 2)) in
       let fits = next-fits before (none 3) in
       record {
+        bytes = sym (same-length e);
         lowest = found;
         told-number = response-reads Rhpk (oneNumber next) _ Hpke-handle refl;
         new-handle = rotated-handle place next context long (found .within) fits;

@@ -3,8 +3,8 @@
 // leaves them. A call is judged (a command's own refusals in `judge`) and its effect found (in `effects`;
 // FERS burns there); then it is written out unless it is refused: a refusal changes nothing, 15 of FERS
 // too, whose burn has set no fuse. `call` answers for any bytes and any lengths. The definitions are in
-// `specs/Mailbox`, the laws in `specs/Laws` and `specs/Told`. It rests on `codec`, `engine`, `erasure`,
-// `handles` and what lies below them.
+// `specs/Mailbox`, the laws in `specs/Judging`, `Laws`, `Told` and `Handles`. It rests on `codec`,
+// `engine`, `erasure`, `handles` and what lies below them.
 mod effects;
 mod judge;
 

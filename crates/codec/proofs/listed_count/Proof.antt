@@ -1,6 +1,4 @@
 -- `codec::listed_count` meets its contract: three handles at most. Assumes nothing.
-use mathlib.Core.Path.{ap}
-use Prim.Native.Nat.{ℕ, _+_}
 use native.Mathlib.Omega.{arith}
 use Rattle.codec.specs.Laws.{list-long, list-full}
 use borrow.Author.Needs.{needs}

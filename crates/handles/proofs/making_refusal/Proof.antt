@@ -5,7 +5,6 @@ use lib.Dec.{eqb}
 use lib.ListN.{length}
 use borrow.Author.Tests.{eq-eqb, ne-eqb, not-false}
 use Rattle.handles.specs.Handles.{countGood, tableOf}
-use Rattle.handles.specs.Making.{distinct}
 use Rattle.handles.specs.Laws.{count-read, good-most, making-at, making-past}
 use borrow.Author.Needs.{needs}
 use Rattle.handles.proofs.making_refusal.Statement.{statement}

@@ -1,5 +1,4 @@
 -- `handles::rotate` meets its contract: there is no place past the last. Assumes nothing.
-use mathlib.Core.Path.{_∙_}
 use Rattle.handles.specs.Laws.{rotated-in, rotated-past}
 use borrow.Author.Needs.{needs}
 use Rattle.handles.proofs.rotate.Statement.{statement}

@@ -1,6 +1,5 @@
 -- `mailbox::judge::rotation_refusal` meets its contract: by the place of the first test that applies. Assumes nothing.
 use mathlib.Core.Path.{_≡_, sym, ap, _∙_}
-use Prim.Native.Nat.{ℕ}
 use mathlib.Core.Bool.{not}
 use Rattle.handles.specs.Handles.{tableOf, hasHandle}
 use Rattle.mailbox.specs.Mailbox.{handleIn}
