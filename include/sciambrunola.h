@@ -140,12 +140,12 @@
  * From a fresh table, while only our calls change it, no number is given twice: the
  * handles that it was made of and all that RHPK gave since are distinct, and every handle
  * of the table is one of them. The limits of that: the table is kept in the context, and
- * the drive has to keep the context, over a loss of power too. Save it, whole, after an
- * RHPK that was accepted and before its response goes to the host. Loaded again it has the
- * key cache of then: call sci_restart. Numbers can be given again from a context that is
- * an older copy, that was saved without its table, that was made anew from zeros, or whose
- * words another version laid out. Where one has to be made anew, make its table of handles
- * above every number that was ever given.
+ * the drive has to keep the context, over a loss of power too. Save it, whole, after
+ * sci_make_table and after each accepted RHPK, before a response goes to the host. Loaded
+ * again it has the key cache of then: call sci_restart. Numbers can be given again from a
+ * context that is an older copy, that was saved without its table, that was made anew from
+ * zeros, or whose words another version laid out. Where one has to be made anew, make its
+ * table of handles above every number that was ever given.
  *
  * Refusal numbers, each with the rest of its name behind SCI_REFUSAL_. A call checks
  * those that its own text names, in ascending order, and answers the first that

@@ -128,7 +128,7 @@ static bool tell_why(void)
 }
 
 /* Once for each drive, before its first mailbox command. Here a drive saves the context,
- * which has the table, and loads it again whenever the power is back. */
+ * which has the table; whenever the power is back it loads that, then calls sci_restart. */
 static bool make_table(void)
 {
     static const uint32_t handles[] = {1, 2};

@@ -113,7 +113,8 @@ impl Drive {
     }
 
     /// Once for each drive, before its first mailbox command. Here a drive saves the words
-    /// of the context, which has the table, and takes them again whenever the power is back.
+    /// of the context, which has the table; whenever the power is back it takes them again,
+    /// then calls restart.
     fn make_table(&mut self) -> Step {
         // The algorithms are of document 003, a bit for each.
         if let Err(number) = make_table(&mut self.context, &[1, 2], &[0x1, 0x2]) {

@@ -67,8 +67,8 @@ pub mod refusal {
     /// The map breaks a rule.
     pub const MAP: u32 = 1;
     /// Cells or marks are not as many as the map says, block or response buffer have not
-    /// the length they need, or the context has no table; also what
-    /// [`make_table`](crate::make_table) refuses.
+    /// the length they need, or the context has no table, or one whose count is not 1 to
+    /// [`HANDLES`](crate::HANDLES); also what [`make_table`](crate::make_table) refuses.
     pub const LENGTHS: u32 = 2;
     /// Unknown code.
     pub const CODE: u32 = 3;
@@ -109,6 +109,7 @@ pub mod refusal {
     pub const NOT_AWAITED: u32 = 19;
     /// RHPK, no handle of the table is the one that is asked for.
     pub const NO_HANDLE: u32 = 20;
-    /// RHPK, the greatest number ever given is the last one there is.
+    /// RHPK, the greatest number ever given is the last one there is or, in a context that
+    /// no calls left, more.
     pub const NUMBERS_USED_UP: u32 = 21;
 }

@@ -7,7 +7,7 @@ use crate::raw;
 /// [`PLACES`](crate::PLACES) places, whether the engine's reply is awaited, and the table of
 /// handles. A new one has every place empty, no reply is awaited, and there is no table:
 /// make it by [`make_table`](crate::make_table), without which every mailbox command is
-/// refused (2).
+/// refused, with 2 unless 1 applies.
 ///
 /// Keep one for each drive, and lend it to every call on it. Keep it over restarts and a
 /// loss of power too, for the table's sake: by its [`words`](Context::words).

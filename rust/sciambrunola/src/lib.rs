@@ -196,9 +196,10 @@ pub fn restart(context: &mut Context) {
 /// one of 1 to 14 applies.
 ///
 /// EHDL tells the handles of the table with their algorithms. RHPK replaces one by the
-/// number after the greatest ever given, and tells that; refused, after 18: 20
-/// ([`refusal::NO_HANDLE`]), 21 ([`refusal::NUMBERS_USED_UP`]). Handles are numbers only:
-/// the drive's own firmware rotates the keypair.
+/// number after the greatest ever given, and tells that; where the handle is there more than
+/// once, which a table by [`make_table`] never comes to, the lowest place is meant; refused,
+/// after 18: 20 ([`refusal::NO_HANDLE`]), 21 ([`refusal::NUMBERS_USED_UP`]). Handles are
+/// numbers only: the drive's own firmware rotates the keypair.
 #[allow(clippy::too_many_arguments)]
 #[inline]
 pub fn mailbox(
@@ -233,14 +234,15 @@ pub fn engine_reply(context: &mut Context, reply: EngineReply) -> Result<(), u32
 }
 
 /// Makes the table of a context that has none, from one to [`HANDLES`] distinct handles with
-/// as many algorithms; the largest handle is the greatest number ever given. Once for each
-/// drive, before its first mailbox command.
+/// as many algorithms; the largest handle is the greatest number ever given. Any number can
+/// be a handle or an algorithm, and algorithms may be equal. Once for each drive, before its
+/// first mailbox command.
 ///
 /// From a fresh table, while only these calls change it, no number is given twice: the
 /// handles that it was made of and all that RHPK gave since are distinct. The table is kept
-/// in the context, and the drive has to keep that over a loss of power, saved after an RHPK
-/// that was accepted and before its response goes to the host. From an older copy, or a
-/// context made anew, numbers can be given again.
+/// in the context, and the drive has to keep that over a loss of power, saved, whole, after
+/// this call and after each accepted RHPK, before a response goes to the host. From an older
+/// copy, or a context made anew, numbers can be given again.
 ///
 /// The error is the refusal's number, 2 ([`refusal::LENGTHS`]): the context has a table, the
 /// handles are none or too many, the algorithms are not as many, or two handles are equal.
