@@ -3,15 +3,15 @@
 //! the slot is still programmed and its HEK available. On another drive, with the mark 1F on cell 5
 //! instead, ZEROIZE gives the indicator 59 ones, one below the bound, and withholds it; the erasure
 //! that follows ends with that pair short. Other cells have the indicator set and three fuses of
-//! the digest: they are torn. EHDL is refused while there is no table. No table is made of handles
-//! that are none, four, equal two of them, or not as many as their algorithms; then one is made,
-//! and a second is refused. Its first handle is two below the last number: two rotations use the
-//! numbers up. A key is loaded, and the engine's reply to it handed in twice; then the cache is
-//! cleared again and again, with every other reply first, numbers that are no reply among them,
-//! which count as failed, and with done last. The maps are the header's two texts, then one with
-//! too little room, one without its last line feed, and one with a slot that is not secret. A
-//! program that drops an erasure's answer is warned by its compiler, in C and in Rust: an erasure
-//! that ended is not yet an erased partition.
+//! the digest: they are torn. EHDL is refused while there is no table. No table is made of no
+//! handle, of four, of two that are equal, or of handles that are not as many as their algorithms;
+//! then one is made, and a second is refused. Its first handle is two below the last number: two
+//! rotations use the numbers up. A key is loaded, and the engine's reply to it handed in twice;
+//! then the cache is cleared again and again, with every other reply first, numbers that are no
+//! reply among them, which count as failed, and with done last. The maps are the header's two
+//! texts, then one with too little room, one without its last line feed, and one with a slot that
+//! is not secret. A program that drops an erasure's answer is warned by its compiler, in C and in
+//! Rust: an erasure that ended is not yet an erased partition.
 
 use checks::runner::{compiled, in_repository, run};
 use std::path::{Path, PathBuf};

@@ -148,7 +148,8 @@ fn list(lent: &Lent) -> Option<Done> {
 /// "Refusal numbers": every refusal that applies to the request, each tested by
 /// itself. A test with nothing to go by does not apply: an unknown code has no
 /// length and names no command, a request that ends too early lacks the field, the HEK is not
-/// looked for without a good map and C cells, and nothing in a table whose count is none.
+/// looked for without a good map and C cells, and no handle is looked for in a table whose count is
+/// not 1 to 3.
 pub fn applying(lent: &Lent, request: &Request) -> Vec<Refusal> {
     let command = request.command();
     let exact = |command: Command| fields::length(command.request_fields());

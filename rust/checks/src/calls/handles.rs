@@ -86,9 +86,11 @@ fn below(table: &Table) -> bool {
     listed(table).iter().any(|number| u64::from(*number) > table.greatest)
 }
 
-/// As it was made, or with what was given since.
+/// Distinct handles, and their largest as the greatest: as it was made, or with what was given
+/// since.
 fn fresh(table: &Table) -> bool {
-    !twice(&listed(table)) && !below(table)
+    let numbers = listed(table);
+    !twice(&numbers) && numbers.into_iter().max().map(u64::from) == Some(table.greatest)
 }
 
 impl Seen<'_> {

@@ -14,7 +14,7 @@ pub fn numbers(random: &mut Random) -> Vec<u32> {
     (0..6).map(|more| first.wrapping_add(more)).collect()
 }
 
-/// A fresh table half of the time; otherwise none, or any.
+/// A fresh table three times in eight; otherwise none, or any.
 pub fn any(random: &mut Random, numbers: &[u32]) -> Table {
     let (handles, algorithms) = fresh(random, numbers);
     match random.below(8) {

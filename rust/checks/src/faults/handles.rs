@@ -102,11 +102,14 @@ impl Made<'_> {
 
     /// A mailbox command finds another count than there is.
     fn counting_handles(&mut self, count: fn(u64) -> u64) -> bool {
+        if !matches!(self.call, Call::Mailbox(_)) {
+            return false;
+        }
         self.after.clone_from(self.before);
         self.after.table.count = count(self.before.table.count);
         self.said = Model.answer(self.after, self.call);
         self.after.table.count = self.before.table.count;
-        matches!(self.call, Call::Mailbox(_))
+        true
     }
 
     /// A mailbox command takes a response buffer of so many bytes for one that is long enough.
