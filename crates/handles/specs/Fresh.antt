@@ -3,7 +3,7 @@
 use Prim.Native.Nat.{ℕ, zero, suc, _+_, _^_, _≤_, _<_}
 use mathlib.Core.Path.{_≡_, refl, sym, ap, ap₂, subst, _∙_}
 use mathlib.Core.Logic.{⊎-elim}
-use mathlib.Core.Bool.{Bool, true, false, not, _||_, false≢true}
+use mathlib.Core.Bool.{Bool, true, false, not, false≢true}
 use mathlib.Core.List.{List, [], _∷_, map}
 use native.Mathlib.Omega.{arith}
 use native.Mathlib.Nat.{not-suc-le-zero, le-of-suc-le-suc}
@@ -11,7 +11,7 @@ use lib.Dec.{eqb, ltb}
 use lib.ListN.{length, getD, take, set, length-set}
 use lib.Seq.{getD-set-same, getD-set-other, drop-cons}
 use borrow.Author.Tests.{eqb-true, eq-eqb, lt-ltb, le-leb, ltb-true, ltb-false, not-false, not-true}
-use Rattle.laws.specs.Tests.{and, decided, not-yes, cond-keeps}
+use Rattle.laws.specs.Tests.{and, either, decided, not-yes, cond-keeps}
 use Rattle.laws.specs.Refusals.{testAt, Past}
 use Rattle.context.specs.Context.{countAt, entriesAt, greatestAt}
 use Rattle.context.specs.State.{Outcome, outcome}
@@ -25,20 +25,16 @@ use Rattle.handles.specs.After.{store-long, entry-handle, entry-algorith
 -- ---- numbers
 
 -- what is among them stands somewhere, and what stands somewhere is among them
-or-true : (b : Bool) {a : Bool} → a ≡ true → (b || a) ≡ true
-or-true true e = refl
-or-true false e = e
-
 pub among-here : (number : ℕ) (numbers : List ℕ) → isAmong number (number ∷ numbers) ≡ true
 among-here number numbers = rw (eq-eqb number number refl)
 
 pub among-after : (number n : ℕ) (numbers : List ℕ) → isAmong n numbers ≡ true → isAmong n (number ∷ numbers) ≡ true
-among-after number n numbers a = or-true (eqb n number) a
+among-after number n numbers a = either (eqb n number) _ a
 
 pub among-at : (numbers : List ℕ) (k : ℕ) → k < length numbers → isAmong (getD numbers k 0) numbers ≡ true
 among-at [] k l = absurd (not-suc-le-zero l)
 among-at (n ∷ numbers) zero l = among-here n numbers
-among-at (n ∷ numbers) (suc k) l = or-true (eqb (getD numbers k 0) n) (among-at numbers k (le-of-suc-le-suc l))
+among-at (n ∷ numbers) (suc k) l = either (eqb (getD numbers k 0) n) _ (among-at numbers k (le-of-suc-le-suc l))
 
 pub among-tells : (number : ℕ) (numbers : List ℕ) → isAmong number numbers ≡ true → (k : ℕ) × (k < length numbers) × (getD numbers k 0 ≡ number)
 among-tells number [] a = absurd (false≢true a)
@@ -88,7 +84,7 @@ map-at : (f : ℕ → ℕ) (entries : List ℕ) (n k : ℕ) → k < n → k < le
 map-at f [] n k l m = absurd (not-suc-le-zero m)
 map-at f (e ∷ entries) zero k l m = absurd (not-suc-le-zero l)
 map-at f (e ∷ entries) (suc n) zero l m = rw (eq-eqb (f e) (f e) refl)
-map-at f (e ∷ entries) (suc n) (suc k) l m = or-true (eqb (f (getD entries k 0)) (f e)) (map-at f entries n k (le-of-suc-le-suc l) (le-of-suc-le-suc m))
+map-at f (e ∷ entries) (suc n) (suc k) l m = either (eqb (f (getD entries k 0)) (f e)) _ (map-at f entries n k (le-of-suc-le-suc l) (le-of-suc-le-suc m))
 
 pub handle-among : (t : Table) (k : ℕ) → k < t .count → k < length (t .entries) → isAmong (handleAt t k) (handlesIn t) ≡ true
 handle-among t k l m = map-at handleOf (t .entries) (t .count) k l m

@@ -54,6 +54,11 @@ pub not-first : (a b : Bool) → (a && b) ≡ false → b ≡ true → a ≡ fal
 not-first true b e h = absurd (false≢true (sym e ∙ h))
 not-first false b e h = refl
 
+-- one of two tests, where the second passes
+pub either : (a b : Bool) → b ≡ true → (a || b) ≡ true
+either true b e = refl
+either false b e = e
+
 -- neither of two tests
 pub neither : (a b : Bool) → (a || b) ≡ false → (a ≡ false) × (b ≡ false)
 neither false b e = (refl, e)

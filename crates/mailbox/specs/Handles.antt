@@ -1,12 +1,18 @@
 -- Request P6: what EHDL and RHPK tell and leave, in any table, also one that is not fresh. Assumes nothing.
 use Prim.Native.Nat.{ℕ, zero, suc, _+_, _*_, _≤_, _<_}
-use mathlib.Core.Path.{_≡_, refl, sym, subst, _∙_}
-use mathlib.Core.Bool.{true}
+use mathlib.Core.Path.{_≡_, refl, sym, ap, subst, _∙_}
+use mathlib.Core.Logic.{⊎-elim}
+use mathlib.Core.Bool.{true, false, not}
 use mathlib.Core.List.{List}
 use native.Mathlib.Omega.{arith}
+use lib.Dec.{eqb, ltb}
 use lib.ListN.{length, getD}
 use borrow.Author.Tests.{ne-eqb, not-false}
-use Rattle.context.specs.State.{Outcome}
+use Rattle.laws.specs.Tests.{decided, either}
+use Rattle.laws.specs.Refusals.{refused-at}
+use Rattle.context.specs.State.{Outcome, refusing}
+use Rattle.map.specs.Map.{mapGood}
+use Rattle.drive.specs.Drive.{wholeArrays}
 use Rattle.handles.specs.Handles.{most, Table, Long, tableOf, hasTable, handleAt, algorithmAt, lowestWith, nextNumber, rotatedAt}
 use Rattle.cache.specs.Cache.{cacheOf}
 use Rattle.cache.specs.Laws.{store-behind}
@@ -17,12 +23,13 @@ use Rattle.engine.specs.declared.Order.the-variants.{Nothing}
 use Rattle.codec.specs.declared.Numbers.{Numbers}
 use Rattle.codec.specs.declared.Command.the-variants.{Ehdl, Rhpk}
 use Rattle.codec.specs.Fields.{Field, Hpke-handle-count, Handle-0, Hpke-algorithm-0, Handle-1, Hpke-algorithm-1, Handle-2, Hpke-algorithm-2, Hpke-handle}
-use Rattle.codec.specs.Fields.{codeOf, responseFields, numberAt, noNumbers, oneNumber}
+use Rattle.codec.specs.Fields.{codeOf, commandOf, responseFields, numberAt, noNumbers, oneNumber, leastRoom}
 use Rattle.codec.specs.Laws.{response-reads, list-bytes}
 use Rattle.mailbox.specs.declared.effects.Effect.{Effect}
 use Rattle.mailbox.specs.declared.Reply.{Reply}
-use Rattle.mailbox.specs.declared.Reply.the-variants.{Accepted}
-use Rattle.mailbox.specs.Mailbox.{effect, tableNumbers, listOf, handleIn, responseAfter, Lent, lent, writtenOut, mailboxOf}
+use Rattle.mailbox.specs.declared.Reply.the-variants.{Refused, Accepted}
+use Rattle.mailbox.specs.Mailbox.{effect, refused, tableNumbers, listOf, handleIn, accepted, lentBad, mailboxTests, doneOf, replyOf, responseAfter}
+use Rattle.mailbox.specs.Mailbox.{Lent, lent, writtenOut, mailboxOf}
 use Rattle.mailbox.specs.Laws.{lent-table}
 use Rattle.mailbox.specs.Told.{lent-elim, mailbox-elim, refused-not}
 
@@ -37,6 +44,23 @@ same-length e = cc
 pub rotated-cache : (k number : ℕ) (context : List ℕ) → cacheOf (rotatedAt k number context) ≡ cacheOf context
 rotated-cache k number context =
     rotated-keeps (λ (c : List ℕ). cacheOf c ≡ cacheOf context) (λ c i v l e. store-behind c i v l ∙ e) context refl k number
+
+-- ---- without a table, as in a context of zeros, every call that passes 1 is refused 2
+
+pub no-table : (image marks : List ℕ) (code : ℕ) (request : List ℕ) (l : Lent) → mapGood image ≡ true → hasTable (tableOf (l .state .context)) ≡ false
+    → mailboxOf image marks code request l .told ≡ Refused 2
+unfolding doneOf
+no-table image marks code request l good none =
+    let tests = mailboxTests image marks code request (length (l .response)) (length (l .block)) (l .state) in
+    let at = refused-at (refusing refused (l .state .cells)) (accepted (commandOf code) image marks request (l .state)) in
+    let tells = ap (λ (d : Outcome Effect (List ℕ)). replyOf (d .told)) in
+    ⊎-elim
+    (λ (y : wholeArrays image (l .state .cells) marks ≡ true). sym (tells (at 2 tests (ap not good, (ap not y, tt)) (lent-none (length (l .response)) (length (l .block)) none))))
+    (λ (o : wholeArrays image (l .state .cells) marks ≡ false). sym (tells (at 1 tests (ap not good, tt) (ap not o))))
+    (decided (wholeArrays image (l .state .cells) marks))
+  where
+    lent-none : (room block : ℕ) → hasTable (tableOf (l .state .context)) ≡ false → lentBad room block (l .state .context) ≡ true
+    lent-none room block o = rw o (either (not (eqb block 128)) _ (either (ltb room leastRoom) true refl))
 
 -- ---- EHDL: a host that reads the response by its list finds the table
 

@@ -244,8 +244,8 @@ pub fn engine_reply(context: &mut Context, reply: EngineReply) -> Result<(), u32
 /// this call and after each accepted RHPK, before a response goes to the host. From an older
 /// copy, or a context made anew, numbers can be given again.
 ///
-/// The error is the refusal's number, 2 ([`refusal::LENGTHS`]): the context has a table, the
-/// handles are none or too many, the algorithms are not as many, or two handles are equal.
+/// The error is the refusal's number, 2 ([`refusal::LENGTHS`]): the context has a table, also
+/// one whose count is not 1 to [`HANDLES`], the handles are none or too many, the algorithms are not as many, or two handles are equal.
 /// Nothing has changed.
 pub fn make_table(context: &mut Context, handles: &[u32], algorithms: &[u32]) -> Result<(), u32> {
     unless_refused(raw::make_table(context, handles, algorithms))
