@@ -22,7 +22,9 @@ response-bytes = refl
 list-lengths : map (λ count. lengthOf (responseFields Ehdl (oneNumber count))) (1 ∷ 2 ∷ 3 ∷ []) ≡ 24 ∷ 32 ∷ 40 ∷ []
 list-lengths = refl
 
-request-places : map (λ field. placeOf field (requestFields Klod)) (Cmd-timeout ∷ Tag-low ∷ Tag-high ∷ Mek ∷ []) ++ (placeOf Partition (requestFields Fers) ∷ placeOf Hpke-handle (requestFields Rhpk) ∷ [])
+request-places :
+    map (λ field. placeOf field (requestFields Klod)) (Cmd-timeout ∷ Tag-low ∷ Tag-high ∷ Mek ∷ [])
+    ++ (placeOf Partition (requestFields Fers) ∷ placeOf Hpke-handle (requestFields Rhpk) ∷ [])
     ≡ 8 ∷ 12 ∷ 16 ∷ 20 ∷ 8 ∷ 8 ∷ []
 request-places = refl
 

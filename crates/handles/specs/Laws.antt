@@ -14,7 +14,8 @@ use Rattle.laws.specs.Refusals.{firstOf, numberOf, number-refuses, number-passe
 use Rattle.context.specs.Context.{countAt, entriesAt, greatestAt}
 use Rattle.context.specs.Laws.{part-at}
 use Rattle.context.specs.State.{Outcome, outcome, refusing}
-use Rattle.handles.specs.Handles.{most, countGood, entryOf, handleOf, algorithmOf, Table, tableOf, handleAt, algorithmAt, holdsAt, lowestWith, hasHandle, lastNumber, usedUp, rotated, rotatedAt}
+use Rattle.handles.specs.Handles.{most, countGood, entryOf, handleOf, algorithmOf, Table, tableOf, handleAt}
+use Rattle.handles.specs.Handles.{algorithmAt, holdsAt, lowestWith, hasHandle, lastNumber, usedUp, rotated, rotatedAt}
 use Rattle.handles.specs.Making.{distinct, greater, largest, made, makingTests, makingOf}
 use Rattle.handles.specs.declared.Answer.{Answer}
 use Rattle.handles.specs.declared.Answer.the-variants.{Made, Refused}

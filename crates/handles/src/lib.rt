@@ -11,7 +11,8 @@ ghost use Prim.Native.Nat.{_<_, _≤_};
 ghost use lib.ListN.{length, getD};
 ghost use Rattle.laws.specs.Refusals.{numberOf};
 ghost use Rattle.context.specs.State.{outcome};
-ghost use Rattle.handles.specs.Handles.{countGood, entryOf, handleOf, algorithmOf, tableOf, hasTable, handleAt, algorithmAt, holdsAt, lowestWith, hasHandle, usedUp, nextNumber, rotatedAt};
+ghost use Rattle.handles.specs.Handles.{countGood, entryOf, handleOf, algorithmOf, tableOf, hasTable};
+ghost use Rattle.handles.specs.Handles.{handleAt, algorithmAt, holdsAt, lowestWith, hasHandle, usedUp, nextNumber, rotatedAt};
 ghost use Rattle.handles.specs.Making.{distinct, greater, largest, entryFrom, makingTests, makingOf};
 
 // The most handles that a table has, and the number of no place.

@@ -153,7 +153,8 @@ module _ (image marks request : List ℕ) (l : Lent) where
   abbrev place : ℕ
   place = lowestWith before (handleIn request)
 
-  -- what an accepted one changes, in a context that has the words of a table, as every lent one has (`Long`): the handle at the lowest place with it, and the greatest; and nothing else
+  -- what an accepted one changes, in a context that has the words of a table, as every lent one has (`Long`): the handle at the lowest
+  -- place with it, and the greatest; and nothing else
   pub record Rotated (o : Outcome Reply Lent) (n : ℕ) (order : Order) : Type 0 where
     pub bytes : n ≡ 16
     pub lowest : Lowest before (handleIn request) place

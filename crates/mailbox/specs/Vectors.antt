@@ -1,6 +1,5 @@
 -- A load, its unload, a clear, a list of handles and a rotation on the small drive, and each refusal where every later one applies too, by
--- computation. Document 01's
--- cases are in `history` SmallDrive. Assumes nothing.
+-- computation. Document 01's cases are in `history` SmallDrive. Assumes nothing.
 use Prim.Native.Nat.{ℕ, _-_}
 use mathlib.Core.Path.{_≡_, refl}
 use mathlib.Core.List.{List, [], _∷_, _++_, map}
@@ -191,7 +190,8 @@ refusals :
     ∷ does small cells (three 0 0x1_0000_0000_0000) 0x5248_504B rhpk-5 40 128
     ∷ []
     ≡ map refused
-    (1 ∷ 2 ∷ 2 ∷ 2 ∷ 2 ∷ 2 ∷ 3 ∷ 4 ∷ 5 ∷ 6 ∷ 7 ∷ 8 ∷ 10 ∷ 11 ∷ 12 ∷ 13 ∷ 14 ∷ 17 ∷ 17 ∷ 17 ∷ 17 ∷ 18 ∷ 18 ∷ 17 ∷ 17 ∷ 20 ∷ 20 ∷ 21 ∷ 21 ∷ [])
+    (1 ∷ 2 ∷ 2 ∷ 2 ∷ 2 ∷ 2 ∷ 3 ∷ 4 ∷ 5 ∷ 6 ∷ 7 ∷ 8 ∷ 10 ∷ 11 ∷ 12 ∷ 13 ∷ 14 ∷ 17 ∷ 17 ∷ 17 ∷ 17 ∷ 18 ∷ 18
+    ∷ 17 ∷ 17 ∷ 20 ∷ 20 ∷ 21 ∷ 21 ∷ [])
 unfolding runs
 refusals = refl
 

@@ -57,7 +57,8 @@ returns-2 c =
     let ready = lent .before in
     let a = ready .before .before .before .before .before .before .before .before .args in
     ap (λ (e : Effect). outcome e (a .cells .now)) (c .refuse3 .ensures)
-    ∙ judged-request _ _ _ _ _ _ (state (a .cells .now) (a .context .now)) (sym (ready .enum-told .given .1) ∙ ready .before .before .check-drive .ensures) (sym (lent .is-lent-bad .ensures) ∙ request .before .before .if1 .left)
+    ∙ judged-request _ _ _ _ _ _ (state (a .cells .now) (a .context .now)) (sym (ready .enum-told .given .1) ∙ ready .before .before .check-drive .ensures)
+    (sym (lent .is-lent-bad .ensures) ∙ request .before .before .if1 .left)
     _ (request .before .command-of .ensures) _ (request .request-refusal .ensures) (c .before .if2 .taken)
 
 own-refusal-requires : tie.Need-own-refusal-requires
@@ -79,7 +80,8 @@ returns-3 c =
     let ready = lent .before in
     let a = ready .before .before .before .before .before .before .before .before .args in
     ap (λ (e : Effect). outcome e (a .cells .now)) (c .refuse4 .ensures)
-    ∙ judged-own _ _ _ _ _ _ (state (a .cells .now) (a .context .now)) (sym (ready .enum-told .given .1) ∙ ready .before .before .check-drive .ensures) (sym (lent .is-lent-bad .ensures) ∙ request .before .before .if1 .left)
+    ∙ judged-own _ _ _ _ _ _ (state (a .cells .now) (a .context .now)) (sym (ready .enum-told .given .1) ∙ ready .before .before .check-drive .ensures)
+    (sym (lent .is-lent-bad .ensures) ∙ request .before .before .if1 .left)
     _ (request .before .command-of .ensures) (sym (own .before .before .if2 .left) ∙ request .request-refusal .ensures) _ (own .own-refusal .ensures) (c .before .if3 .taken)
 
 carry-out-requires : tie.Need-carry-out-requires
@@ -118,9 +120,10 @@ returns-5 c =
     let lent = request .before .before .before in
     let ready = lent .before in
     let a = ready .before .before .before .before .before .before .before .before .args in
-    judged-done _ _ _ _ _ _ (state (a .cells .now) (a .context .now)) (sym (ready .enum-told .given .1) ∙ ready .before .before .check-drive .ensures) (sym (lent .is-lent-bad .ensures) ∙ request .before .before .if1 .left)
-    _ (request .before .command-of .ensures) (sym (own .before .before .if2 .left) ∙ request .request-refusal .ensures) (sym (c .before .before .before .before .if3 .left) ∙ own .own-refusal .ensures)
-    (c .before .before .carry-out .ensures)
+    judged-done _ _ _ _ _ _ (state (a .cells .now) (a .context .now)) (sym (ready .enum-told .given .1) ∙ ready .before .before .check-drive .ensures)
+    (sym (lent .is-lent-bad .ensures) ∙ request .before .before .if1 .left)
+    _ (request .before .command-of .ensures) (sym (own .before .before .if2 .left) ∙ request .request-refusal .ensures)
+    (sym (c .before .before .before .before .if3 .left) ∙ own .own-refusal .ensures) (c .before .before .carry-out .ensures)
 
 pub effect-of-spec : {M : Type 1} → statement M
 effect-of-spec =
