@@ -185,8 +185,8 @@
  *   18  UNSURE           KLOD or KUNL while a place is unsure: CLKC first
  *   19  NOT_AWAITED      a reply of the engine, and none is awaited
  *   20  NO_HANDLE        RHPK, no handle of the table is the one that is asked for
- *   21  NUMBERS_USED_UP  RHPK, the greatest number ever given is 2^32 - 1, or in a
- *                        context that no calls left more: there is no next one
+ *   21  NUMBERS_USED_UP  RHPK, the greatest number ever given is 2^32 - 1, or more, as
+ *                        only a damaged context has it: there is no next one
  */
 #ifndef SCIAMBRUNOLA_H
 #define SCIAMBRUNOLA_H
@@ -647,9 +647,8 @@ uint32_t sci_make_table(sci_context *context,
  * EHDL tells the handles of the table, in its order, with their algorithms. It changes
  * nothing but the response; there is no order for the engine.
  * RHPK replaces the handle that it names by the number after the greatest ever given, and
- * tells that. Where the handle is there more than once, which a table by sci_make_table
- * never comes to, the lowest place is meant. The algorithm and the block are unchanged,
- * and there is no order for the engine.
+ * tells that. Where the handle is there more than once, the lowest place is meant. The
+ * algorithm and the block are unchanged, and there is no order for the engine.
  *
  * The response buffer has SCI_LEAST_RESPONSE bytes or more, the block has
  * SCI_BLOCK_BYTES: the engine's registers from 00h on, without CTRL at 80h. Where

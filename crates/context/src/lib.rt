@@ -1,5 +1,5 @@
 // The context: all that the key block keeps between calls, in one lent array of words. All zeros are
-// the context of a drive before its first call, which makes its table. Here is where each part lies; a
+// the context of a drive before its first call; `handles` makes its table. Here is where each part lies; a
 // part's own crate reads and writes it (`cache`: the places and the awaited reply; `handles`: the table).
 // The definitions are in `specs/Context`, the one law of stores in `specs/Laws`; `specs/State` has what
 // calls change and what a call answers and leaves. It rests on nothing.

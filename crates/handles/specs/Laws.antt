@@ -45,7 +45,7 @@ module _ (context : List ℕ) where
   unfolding holdsAt
   holds-read handle k e = rw (e, count-read)
 
--- a table has at most three handles, and its greatest a number above it that has 32 bits
+-- a table has at most three handles, and where a number is left, the one above the greatest has 32 bits
 pub good-most : (count : ℕ) → countGood count ≡ true → count ≤ most
 good-most count h = leb-true _ _ (and (ltb 0 count) _ h .1)
 

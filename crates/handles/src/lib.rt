@@ -2,8 +2,9 @@
 // greatest number ever given. It lies in its part of the context, and no function here changes another
 // part of it. A fresh table is made once, in a context that has none; a rotation gives a handle the
 // number above the greatest, so that no number is given twice (`history` `Handles`). The functions answer
-// for any words, but `count_of` asks for a table and `next_number` for a number that is left. The definitions are in `specs/Handles` and `specs/Making`, the laws for callers in
-// `specs/Laws`, `After` and `Fresh`. It rests on `context` and `laws`.
+// for any words, but `count_of` asks for a table and `next_number` for a number that is left. The
+// definitions are in `specs/Handles` and `specs/Making`, the laws for callers in `specs/Laws`, `After` and
+// `Fresh`. It rests on `context` and `laws`.
 use context::Context;
 ghost use mathlib.Core.Path.{_≡_};
 ghost use mathlib.Core.Bool.{true, false};

@@ -192,7 +192,7 @@ ownTests command image request s = commandTests command image request s ++ (engi
 abbrev pub lentBad : (room block : ℕ) (context : List ℕ) → Bool
 lentBad room block context = not (eqb block 128) || (ltb room leastRoom || not (hasTable (tableOf context)))
 
--- the refusals of a call after the drive's own: 2 for the buffers and the table, 3 to 6 for the request, 7 to 21 for the command
+-- the refusals of a call after the drive's own: 2 for the buffers and the table, 3 to 6 for the request, then the command's own
 abbrev pub laterTests : Command → (image : List ℕ) (code : ℕ) (request : List ℕ) (bad : Bool) → State → List (Bool × ℕ)
 laterTests command image code request bad s = (bad, 2) ∷ (requestTests command code request ++ ownTests command image request s)
 
@@ -201,7 +201,7 @@ abbrev pub mailboxTests : (image marks : List ℕ) (code : ℕ) (request : List 
 mailboxTests image marks code request room block s =
     driveTests image (s .cells) marks ++ laterTests (commandOf code) image code request (lentBad room block (s .context)) s
 
--- "the lowest that applies is given, and none is given otherwise", where by requests P5 and P6 17 to 21 are checked before 15
+-- "the lowest that applies is given, and none is given otherwise", where by requests P5 and P6 17, 18, 20 and 21 are checked before 15
 unfoldable pub doneOf : (image marks : List ℕ) (code : ℕ) (request : List ℕ) (room block : ℕ) → State → Outcome Effect (List ℕ)
 doneOf image marks code request room block s =
     firstOf (refusing refused (s .cells)) (mailboxTests image marks code request room block s) (accepted (commandOf code) image marks request s)
@@ -277,8 +277,8 @@ pub record Fits (order : Order) (request block : List ℕ) : Type 0 where
   pub block-long : length block ≡ 128
   pub request-long : loads order ≡ true → length request ≡ lengthOf (requestFields Klod)
 
--- what a command asks of the drive and of the table, where it is carried out: FERS, a partition that may be erased; EHDL, a table; RHPK, a
--- number that is left
+-- what a command asks of the drive and of the table, where it is carried out: every one a whole drive and a table; FERS, a partition that
+-- may be erased; RHPK, a number that is left
 pub record Allowed (command : Command) (image marks request : List ℕ) (s : State) : Type 0 where
   pub whole : Whole image (s .cells)
   pub table : hasTable (tableOf (s .context)) ≡ true

@@ -33,7 +33,7 @@ fn is_lent_bad(room: usize, block: usize, context: &Context) -> bool
     (block != BLOCK_BYTES) | ((room < codec::LEAST_ROOM) | !handles::has_table(context))
 }
 
-// What a call does: every refusal, in their order, 17 to 21 before 15; and the burns of FERS. `room` and
+// What a call does: every refusal, in their order, 17, 18, 20 and 21 before 15; and the burns of FERS. `room` and
 // `block` are the lengths of the response buffer and of the engine block.
 fn effect_of(
     image: &[u8],

@@ -109,7 +109,7 @@ pub mod refusal {
     pub const NOT_AWAITED: u32 = 19;
     /// RHPK, no handle of the table is the one that is asked for.
     pub const NO_HANDLE: u32 = 20;
-    /// RHPK, the greatest number ever given is the last one there is or, in a context that
-    /// no calls left, more.
+    /// RHPK, the greatest number ever given is the last one there is, or more, as only a
+    /// damaged context has it.
     pub const NUMBERS_USED_UP: u32 = 21;
 }

@@ -197,9 +197,9 @@ pub fn restart(context: &mut Context) {
 ///
 /// EHDL tells the handles of the table with their algorithms. RHPK replaces one by the
 /// number after the greatest ever given, and tells that; where the handle is there more than
-/// once, which a table by [`make_table`] never comes to, the lowest place is meant; refused,
-/// after 18: 20 ([`refusal::NO_HANDLE`]), 21 ([`refusal::NUMBERS_USED_UP`]). Handles are
-/// numbers only: the drive's own firmware rotates the keypair.
+/// once, the lowest place is meant. Refused, after 18: 20 ([`refusal::NO_HANDLE`]), 21
+/// ([`refusal::NUMBERS_USED_UP`]). Handles are numbers only: the drive's own firmware rotates
+/// the keypair.
 #[allow(clippy::too_many_arguments)]
 #[inline]
 pub fn mailbox(
