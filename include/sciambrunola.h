@@ -62,11 +62,12 @@
  *   8 up to E   zeros
  *   E on        P entries of 8 bytes, and nothing behind them: u16 first cell,
  *               u16 cells n, u8 kind (SCI_KIND_: 0 hardware, 1 software, 2 life
- *               cycle), u8 flags (SCI_FLAG_: 1 zeroizable, 2 secret, 4 HEK slot;
- *               higher bits zero), two zero bytes
+ *               cycle), u8 flags (SCI_FLAG_: 1 zeroizable, 2 secret, 4 HEK slot, 8
+ *               older guide; higher bits zero), two zero bytes
  * First and n are even, n at least 4, and at least 6 if zeroizable. Entries
  * ascend without overlap and end by C; gaps are allowed. Life cycle is never
- * zeroizable, secret needs kind 0, a slot is zeroizable and secret.
+ * zeroizable, secret needs kind 0, a slot is zeroizable and secret, and a partition on
+ * the older guide is zeroizable.
  *
  * Words. An even cell and the next are a pair, low half first. A zeroizable
  * partition ends with its indicator, a pair, and before it the digest, a pair;
@@ -200,7 +201,7 @@ extern "C" {
 
 /* The version of this header and of the archive that goes with it: it grows by one
  * whenever something changes for a caller. docs/CHANGES.md says what. */
-#define SCI_VERSION 10
+#define SCI_VERSION 11
 
 /* Of a function whose answer has to be looked at: a warning where it is not, if the
  * compiler has one. An erasure that ended is not yet an erased partition. */
@@ -234,6 +235,7 @@ extern "C" {
 #define SCI_FLAG_ZEROIZABLE 1
 #define SCI_FLAG_SECRET 2
 #define SCI_FLAG_SLOT 4
+#define SCI_FLAG_OLDER_GUIDE 8
 
 /* The refusal of any answer; 0 is none. The table above says what each means. */
 #define SCI_REFUSAL_MAP 1
@@ -333,7 +335,7 @@ typedef struct {
     uint32_t first;      /* the partition's first cell, in the whole array */
     uint32_t length;     /* n, its number of cells */
     uint32_t kind;       /* SCI_KIND_HARDWARE, _SOFTWARE or _LIFE_CYCLE */
-    uint32_t flags;      /* the sum of SCI_FLAG_ZEROIZABLE, _SECRET and _SLOT */
+    uint32_t flags;      /* the sum of SCI_FLAG_ZEROIZABLE, _SECRET, _SLOT, _OLDER_GUIDE */
 } sci_fields;
 
 /* What sci_write_map answers beside the image. */
@@ -511,6 +513,11 @@ sci_answer sci_write(const uint8_t *image, size_t image_bytes,
  * ZEROIZE of the word that starts at this cell. Burns each of its fuses that
  * is not stuck, and leaves all others. Answers the word as it then stands; in a
  * secret partition only if its ones reach the map's bound, otherwise withheld.
+ * In a partition on the older guide (SCI_FLAG_OLDER_GUIDE) all ones at the word's
+ * width, 0xFFFFFFFF or 0xFFFFFFFFFFFFFFFF, are answered in the word's place; what burns,
+ * what is withheld, by the ones of the word as it stands, and what is refused is the same.
+ * Warning: on the older guide the answer tells nothing of stuck fuses. Whether a
+ * partition is erased its state tells, by sci_states, and not this word.
  * Refused: 1, 2, 7; 8 in a partition that is not zeroizable; 10.
  */
 SCI_ANSWER

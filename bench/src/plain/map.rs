@@ -96,7 +96,7 @@ impl Entry {
     fn is_good(&self, end: usize, cells: u16) -> bool {
         let Range { start, end: own_end } = self.range();
         self.kind <= 2
-            && self.flags <= 7
+            && self.flags <= 15
             && self.first % 2 == 0
             && self.length % 2 == 0
             && self.length >= if self.is_zeroizable() { 6 } else { 4 }
@@ -105,6 +105,7 @@ impl Entry {
             && !(self.kind == 2 && self.is_zeroizable())
             && !(self.kind != 0 && self.is_secret())
             && (!self.is_slot() || (self.is_zeroizable() && self.is_secret()))
+            && (!self.is_on_older_guide() || self.is_zeroizable())
     }
 
     /// The partition's cells in the whole array.
@@ -130,6 +131,10 @@ impl Entry {
     /// Flag 4.
     pub fn is_slot(&self) -> bool {
         self.flags & 4 != 0
+    }
+
+    fn is_on_older_guide(&self) -> bool {
+        self.flags & 8 != 0
     }
 }
 

@@ -3,7 +3,7 @@
 use Prim.Native.Nat.{ℕ, zero, suc, _+_, _-_, _*_, _/_, _%_, _^_, _≤_, _<_}
 use mathlib.Core.Bool.{Bool, true, false}
 use mathlib.Core.Path.{_≡_, refl, sym, ap, _∙_}
-use mathlib.Core.Logic.{inr, ⊎-elim}
+use mathlib.Core.Logic.{_⊎_, inl, inr, ⊎-elim}
 use mathlib.Core.List.{List, [], _∷_, _++_}
 use native.Mathlib.Nat.{eq-or-lt-of-le, suc-mul, add-zero}
 use native.Mathlib.Omega.{arith}
@@ -83,11 +83,15 @@ module _ (marks : List ℕ) where
   grown-burn k true v cells = grown-trans (grown-cell k (v % 2 ^ 32) cells) (grown-cell (k + 1) (v / 2 ^ 32) _)
   grown-burn k false v cells = grown-cell k (v % 2 ^ 32) cells
 
-  -- the cells before a word stay as they are
-  pub burn-before : (k : ℕ) (wide : Bool) (v : ℕ) (cells : List ℕ) (j : ℕ) → j < k → getD (burnWord marks k wide v cells) j 0 ≡ getD cells j 0
-  burn-before k wide v cells j l =
+  -- the cells beside a word, before it or behind it, stay as they are
+  pub burn-beside : (k : ℕ) (wide : Bool) (v : ℕ) (cells : List ℕ) (j : ℕ) → (j < k) ⊎ (k + cellsIn wide ≤ j) → getD (burnWord marks k wide v cells) j 0 ≡ getD cells j 0
+  burn-beside k wide v cells j beside =
       let one : 0 < 1 = omega arith in
-      simp (getD-take {A = ℕ} 1, getD-drop {A = ℕ}, add-zero) at (ap (λ (x : List ℕ). getD x 0 0) (burn-apart j 1 marks k wide v cells (inr (omega arith))))
+      let apart : (k + cellsIn wide ≤ j) ⊎ (j + 1 ≤ k) = ⊎-elim (λ (l : j < k). inr (omega arith)) (λ (l : k + cellsIn wide ≤ j). inl l) beside in
+      simp (getD-take {A = ℕ} 1, getD-drop {A = ℕ}, add-zero) at (ap (λ (x : List ℕ). getD x 0 0) (burn-apart j 1 marks k wide v cells apart))
+
+  pub burn-before : (k : ℕ) (wide : Bool) (v : ℕ) (cells : List ℕ) (j : ℕ) → j < k → getD (burnWord marks k wide v cells) j 0 ≡ getD cells j 0
+  burn-before k wide v cells j l = burn-beside k wide v cells j (inl l)
 
   cell-fills : (cells : List ℕ) (j : ℕ) → j < length cells → (k : ℕ) → k ≡ j → getD (burnCell marks k allSet cells) j 0 ≡ full (getD marks j 0) (getD cells j 0)
   unfolding burnCell

@@ -1,4 +1,4 @@
--- Document 01, "Direct commands": what a command on a word answers, and the cells that it leaves. Assumes nothing.
+-- Document 01, "Direct commands", with request P7: what a command on a word answers, and the cells that it leaves. Assumes nothing.
 use Prim.Native.Nat.{ℕ, _+_, _^_}
 use mathlib.Core.Bool.{Bool, true, false, cond, not, _&&_, _||_}
 use mathlib.Core.List.{List, [], _∷_, _++_}
@@ -7,8 +7,9 @@ use lib.ListN.{getD}
 use lib.Bits.{bitOr}
 use Rattle.laws.specs.Refusals.{firstOf}
 use Rattle.context.specs.State.{State, withCells, Outcome, outcome, refusing}
-use Rattle.map.specs.Map.{headerOf, entryOf, lifeCycle, zeroizable, secret}
-use Rattle.fuse.specs.Fuse.{pairOf, short, allOnes, burnWord}
+use Rattle.map.specs.declared.Entry.{Entry}
+use Rattle.map.specs.Map.{headerOf, entryOf, lifeCycle, zeroizable, secret, olderGuide}
+use Rattle.fuse.specs.Fuse.{allSet, pairOf, short, allOnes, burnWord}
 use Rattle.word.specs.declared.Role.{Role}
 use Rattle.word.specs.declared.Role.the-variants.{Data, Digest, Indicator}
 use Rattle.word.specs.declared.Lookup.{Lookup}
@@ -84,16 +85,21 @@ cellsAfter (Read cell) wide marks cells = cells
 cellsAfter (Write cell value) wide marks cells = burnWord marks cell wide value cells
 cellsAfter (Zeroize cell) wide marks cells = burnWord marks cell wide allOnes cells
 
--- what is answered of the word as it now stands. WRITE: "or done in a secret partition". ZEROIZE: "in a secret partition only if its
--- ones reach B, otherwise withheld"
-abbrev pub answerOf : Command → (secret : Bool) (bound word : ℕ) → Answer
-answerOf (Read cell) secret bound word = Shown word
-answerOf (Write cell value) secret bound word = cond secret Done (Shown word)
-answerOf (Zeroize cell) secret bound word = cond (secret && short bound word) Withheld (Shown word)
+-- request P7: "all ones at the word's width"
+abbrev pub onesAt : (wide : Bool) → ℕ
+onesAt true = allOnes
+onesAt false = allSet
 
--- the word is shown as it now stands
+-- what is answered of the word of a partition as it now stands. WRITE: "or done in a secret partition". ZEROIZE: "in a secret partition
+-- only if its ones reach B, otherwise withheld"; on the older guide (request P7) "the answer is all ones .., stuck fuses or not. Withholding stays"
+abbrev pub answerOf : Command → Entry → (wide : Bool) (bound word : ℕ) → Answer
+answerOf (Read cell) x wide bound word = Shown word
+answerOf (Write cell value) x wide bound word = cond (secret x) Done (Shown word)
+answerOf (Zeroize cell) x wide bound word = cond (secret x && short bound word) Withheld (Shown (cond (olderGuide x) (onesAt wide) word))
+
+-- the answer is by the word as it now stands
 abbrev pub shownOf : Command → (image : List ℕ) (i : ℕ) (wide : Bool) → State → Outcome Answer State
-shownOf command image i wide s = outcome (answerOf command (secret (entryOf image i)) (headerOf image .bound) (wordOf wide (cellOf command) (s .cells))) s
+shownOf command image i wide s = outcome (answerOf command (entryOf image i) wide (headerOf image .bound) (wordOf wide (cellOf command) (s .cells))) s
 
 -- a cell that starts no word is refused before
 unfoldable pub carriedOut : Lookup → Command → (image marks : List ℕ) → State → Outcome Answer State

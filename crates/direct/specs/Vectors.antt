@@ -59,6 +59,22 @@ zeroize-59 : on-small 0x1F (Zeroize 0) ≡ outcome Withheld (state (0xFFFF_FFFF 
 unfolding runs
 zeroize-59 = refl
 
+-- on the older guide (request P7) the same fuses burn, 59 ones are withheld too, and 60 are told as all ones; a narrow word as 32 of them
+abbrev on-older : (stuck : ℕ) → Command → Outcome Answer State
+on-older stuck command = runs (image 2 12 60 8 [] (entry 0 6 0 15 ++ entry 6 6 1 9)) (0 ∷ stuck ∷ replicate 5 0 ++ (stuck ∷ replicate 4 0)) command (state cells no-key)
+
+older-60 : on-older 0x0F (Zeroize 0) ≡ outcome (Word 0xFFFF_FFFF_FFFF_FFFF) (state (0xFFFF_FFFF ∷ 0xFFFF_FFF0 ∷ replicate 10 0) no-key)
+unfolding runs
+older-60 = refl
+
+older-59 : on-older 0x1F (Zeroize 0) ≡ outcome Withheld (state (0xFFFF_FFFF ∷ 0xFFFF_FFE0 ∷ replicate 10 0) no-key)
+unfolding runs
+older-59 = refl
+
+older-narrow : on-older 0x1F (Zeroize 7) ≡ outcome (Word 0xFFFF_FFFF) (state (1 ∷ replicate 6 0 ++ (0xFFFF_FFE0 ∷ replicate 4 0)) no-key)
+unfolding runs
+older-narrow = refl
+
 -- WRITE into the secret word is done, into a software word of 32 bits shown; its neighbour stays, and a stuck fuse is not set
 write-secret : on-small 0 (Write 0 0x0000_0003_0000_0001) ≡ outcome Done (state (1 ∷ 3 ∷ replicate 10 0) no-key)
 unfolding runs

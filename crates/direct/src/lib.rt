@@ -8,6 +8,7 @@
 // `word`, `context`, `fuse` and what lies below them.
 use context::Context;
 use drive::Check;
+use map::Entry;
 use word::Lookup;
 use word::Role;
 ghost use mathlib.Core.Path.{_≡_};
@@ -17,7 +18,7 @@ ghost use lib.ListN.{length};
 ghost use Rattle.fuse.specs.Fuse.{cellsIn};
 ghost use Rattle.word.specs.Word.{wordAt};
 ghost use Rattle.context.specs.State.{state, outcome};
-ghost use Rattle.direct.specs.Direct.{wordOf, isData, answerOf, foundBy, directOf};
+ghost use Rattle.direct.specs.Direct.{wordOf, isData, onesAt, answerOf, foundBy, directOf};
 
 // A command and the word that it names, by its first cell in the whole array.
 pub enum Command {
@@ -90,22 +91,36 @@ fn find(check: Check, image: &[u8], cell: u32) -> Found
 
 // What WRITE answers of its word as it now stands, which is not looked at in a secret partition. It
 // does not depend on the command's cell, its value and the bound.
-fn written(cells: &[u32], at: usize, wide: bool, secret: bool) -> Answer
+fn written(cells: &[u32], at: usize, wide: bool, x: Entry) -> Answer
     requires { ⌜ at + cellsIn wide ≤ length (now cells) ⌝ }
-    ensures { λ r. ⌜ r ≡ answerOf (Command.Write 0 0) secret 0 (wordOf wide at (now (cells .entry))) ⌝ }
+    ensures { λ r. ⌜ r ≡ answerOf (Command.Write 0 0) x wide 0 (wordOf wide at (now (cells .entry))) ⌝ }
 {
-    if secret {
+    if map::is_secret(x) {
         return Answer::Done;
     }
     Answer::Word(word_of(cells, at, wide))
 }
 
-// What ZEROIZE answers of its word as it now stands, whatever the command's cell.
-fn zeroized(word: u64, secret: bool, bound: u64) -> Answer
-    ensures { λ r. ⌜ r ≡ answerOf (Command.Zeroize 0) secret bound word ⌝ }
+// All ones at a word's width.
+fn ones_at(wide: bool) -> u64
+    ensures { λ r. ⌜ r ≡ onesAt wide ⌝ }
 {
-    if secret & (fuse::ones(word) < bound) {
+    if wide {
+        return fuse::ALL_ONES;
+    }
+    0xFFFF_FFFF
+}
+
+// What ZEROIZE answers of its word as it now stands, whatever the command's cell. It is withheld by
+// the word's own ones, also on the older guide, which shows all ones in its place.
+fn zeroized(word: u64, wide: bool, x: Entry, bound: u64) -> Answer
+    ensures { λ r. ⌜ r ≡ answerOf (Command.Zeroize 0) x wide bound word ⌝ }
+{
+    if map::is_secret(x) & (fuse::ones(word) < bound) {
         return Answer::Withheld;
+    }
+    if map::is_on_older_guide(x) {
+        return Answer::Word(ones_at(wide));
     }
     Answer::Word(word)
 }
@@ -168,7 +183,7 @@ pub fn write(
                 return Answer::Refused(10);
             }
             fuse::burn_word(cells, marks, cell as usize, wide, value);
-            written(cells, cell as usize, wide, map::is_secret(x))
+            written(cells, cell as usize, wide, x)
         }
     }
 }
@@ -202,7 +217,7 @@ pub fn zeroize(
             }
             fuse::burn_word(cells, marks, at, wide, fuse::ALL_ONES);
             let word = word_of(cells, at, wide);
-            zeroized(word, map::is_secret(x), header.bound as u64)
+            zeroized(word, wide, x, header.bound as u64)
         }
     }
 }

@@ -182,5 +182,5 @@ pub fn is_hek_available(image: &[u8], cells: &[u32]) -> bool
 pub fn is_slot_in_use(image: &[u8], i: u32, context: &Context) -> bool
     ensures { λ r. ⌜ r ≡ slotInUse (now (image .entry)) i (now (context .entry)) ⌝ }
 {
-    map::is_slot(map::read_entry(image, i)) & cache::has_place(context, Sought::Occupied)
+    map::is_slot(map::read_entry(image, i)) && cache::has_place(context, Sought::Occupied)
 }

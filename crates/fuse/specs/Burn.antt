@@ -24,7 +24,7 @@ use Rattle.laws.specs.Tests.{lt-or-le}
 use Rattle.laws.specs.Bits.{bit, _⊆_, ext, bit-or, bit-and, bit-not, sub-refl, sub-antisym, sub-or-l, sub-or-r, sub-and-l, sub-and-r, or-lub, or-mono, and-mono}
 use Rattle.laws.specs.Bits.{full-and}
 use Rattle.laws.specs.Ones.{counted, count-zero, count-le, count-mono, cat-sub}
-use Rattle.fuse.specs.Fuse.{allSet, free, burn, pairOf, onesOf, short, cellsIn, burnCell, burnWord}
+use Rattle.fuse.specs.Fuse.{allSet, free, burn, pairOf, onesOf, short, cellsIn, allOnes, burnCell, burnWord}
 
 -- "A mark on a set fuse has no effect": two marks that differ only on set fuses make the same burn
 pub mark-on-set : (cell v : ℕ) {mark other : ℕ} → mark < 2 ^ 32 → other < 2 ^ 32 → ((i : ℕ) → bit i cell ≡ 0 → bit i mark ≡ bit i other)
@@ -96,6 +96,11 @@ ones-counted {n} h = counted 64 n h
 pub ones-zero : onesOf 0 ≡ 0
 unfolding onesIn
 ones-zero = refl
+
+-- and a pair with every fuse set has 64
+pub ones-all : onesOf allOnes ≡ 64
+unfolding onesIn
+ones-all = refl
 
 pub no-ones : {low high : ℕ} → low < 2 ^ 32 → high < 2 ^ 32 → onesOf (pairOf low high) ≡ 0 → pairOf low high ≡ 0
 no-ones {low} {high} l h e = count-zero 64 (pairOf low high) (omega arith) e

@@ -11,6 +11,9 @@ pub mod Recovery
 pub mod Handles
 pub mod HandlesProof
 pub mod Refused
+pub mod Zeroize
+pub mod Guides
+pub mod GuidesProof
 pub mod Fifteen
 pub mod Demand3
 pub mod Forms

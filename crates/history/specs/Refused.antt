@@ -12,7 +12,8 @@ use borrow.Author.Tests.{ne-eqb, not-false, leb-false}
 use Rattle.laws.specs.Tests.{cond-keeps}
 use Rattle.laws.specs.Refusals.{first-elim, testAt, Applies, not-applies}
 use Rattle.context.specs.State.{State, withCells, withContext, Outcome, outcome, refusing}
-use Rattle.map.specs.Map.{headerOf, mapGood}
+use Rattle.map.specs.declared.Entry.{Entry}
+use Rattle.map.specs.Map.{headerOf, secret, mapGood}
 use Rattle.fuse.specs.Fuse.{short}
 use Rattle.burns.specs.declared.End.{End}
 use Rattle.burns.specs.declared.End.the-variants.{Whole, Stopped, Cut as CutEnd}
@@ -55,13 +56,14 @@ abbrev pub Unchanged : (image marks : List ℕ) → Call → State → Type 0
 Unchanged image marks call s = 1 ≤ refusal (told image marks call s) → after image marks call s ≡ s
 
 -- a direct command that is carried out is not refused
-carried-answers : (command : Command) (secret : Bool) (bound word : ℕ) → refusal (Answering (answerOf command secret bound word)) ≡ 0
-carried-answers (Read cell) secret bound word = refl
-carried-answers (Write cell value) secret bound word = cond-keeps (λ (a : DirectAnswer). refusal (Answering a) ≡ 0) secret Burned (Word word) (λ _. refl) (λ _. refl)
-carried-answers (Zeroize cell) secret bound word = cond-keeps (λ (a : DirectAnswer). refusal (Answering a) ≡ 0) (secret && short bound word) Withheld (Word word) (λ _. refl) (λ _. refl)
+carried-answers : (command : Command) (x : Entry) (wide : Bool) (bound word : ℕ) → refusal (Answering (answerOf command x wide bound word)) ≡ 0
+carried-answers (Read cell) x wide bound word = refl
+carried-answers (Write cell value) x wide bound word = cond-keeps (λ (a : DirectAnswer). refusal (Answering a) ≡ 0) (secret x) Burned (Word word) (λ _. refl) (λ _. refl)
+carried-answers (Zeroize cell) x wide bound word =
+    cond-keeps (λ (a : DirectAnswer). refusal (Answering a) ≡ 0) (secret x && short bound word) Withheld (Word _) (λ _. refl) (λ _. refl)
 
-not-refused : (command : Command) (secret : Bool) (bound word : ℕ) → 1 ≤ refusal (Answering (answerOf command secret bound word)) → ⊥
-not-refused command secret bound word l = omega (arith, carried-answers command secret bound word)
+not-refused : (command : Command) (x : Entry) (wide : Bool) (bound word : ℕ) → 1 ≤ refusal (Answering (answerOf command x wide bound word)) → ⊥
+not-refused command x wide bound word l = omega (arith, carried-answers command x wide bound word)
 
 -- a reply that refuses tells the effect's number
 pub reply-number : (e : Effect) (n : ℕ) → refusal (Replying (replyOf e) []) ≡ suc n → e .refusal ≡ suc n
@@ -87,7 +89,7 @@ module _ (image marks : List ℕ) (s : State) where
   by-lookup command (Found i role wide) =
       let tests = directTests (Found i role wide) command image marks s in
       first-elim DirectStays (refusing NotDone s) tests (carriedOut (Found i role wide) command image marks s)
-      (λ n a l. (refl, λ e. not-applies 15 tests refl (subst (λ (m : ℕ). Applies m tests) e a))) (λ none l. absurd (not-refused command _ _ _ l))
+      (λ n a l. (refl, λ e. not-applies 15 tests refl (subst (λ (m : ℕ). Applies m tests) e a))) (λ none l. absurd (not-refused command _ _ _ _ l))
 
   pub direct-stays : (command : Command) → DirectStays (directOf image marks command s)
   direct-stays command = subst DirectStays (sym (direct-at image marks command s refl)) (by-lookup command (wordAt image (cellOf command)))

@@ -1,7 +1,7 @@
 -- Document 01, "Direct commands" and demand 2: what no answer shows, and when a key is loaded. Assumes nothing.
 use Prim.Native.Nat.{ℕ, _+_, _-_, _≤_, _<_}
 use mathlib.Core.Path.{_≡_, refl, sym, ap, _∙_}
-use mathlib.Core.Bool.{Bool, true, false, cond, _&&_, false≢true}
+use mathlib.Core.Bool.{Bool, true, false, cond, false≢true}
 use mathlib.Core.List.{List}
 use mathlib.Core.Logic.{⊎-elim}
 use native.Mathlib.Omega.{arith}
@@ -11,17 +11,19 @@ use borrow.Author.Tests.{ltb-false, not-false}
 use Rattle.laws.specs.Tests.{decided, not-yes, cond-keeps, ordered}
 use Rattle.laws.specs.Refusals.{first-elim}
 use Rattle.context.specs.State.{State, Outcome, refusing}
-use Rattle.map.specs.Map.{headerOf, entryOf, secret, mapGood}
-use Rattle.fuse.specs.Fuse.{onesOf, short, cellsIn}
+use Rattle.map.specs.declared.Entry.{Entry}
+use Rattle.map.specs.Map.{headerOf, entryOf, secret, olderGuide, mapGood}
+use Rattle.fuse.specs.Fuse.{onesOf, short, cellsIn, allOnes}
+use Rattle.fuse.specs.Burn.{ones-all}
 use Rattle.word.specs.declared.Role.{Role}
 use Rattle.word.specs.declared.Lookup.{Lookup}
 use Rattle.word.specs.declared.Lookup.the-variants.{Word, Nothing as NoWord}
 use Rattle.word.specs.Word.{holds, wordAt}
-use Rattle.word.specs.Laws.{Found, apart, holds-at, word-tells}
+use Rattle.word.specs.Laws.{Found, apart, holds-at, word-tells, secret-wide}
 use Rattle.direct.specs.declared.Command.the-variants.{Read, Write, Zeroize}
 use Rattle.direct.specs.declared.Answer.{Answer}
 use Rattle.direct.specs.declared.Answer.the-variants.{Word as Shown, Done, Withheld, Refused}
-use Rattle.direct.specs.Direct.{wordOf, forbidden, directTests, cellsAfter, carriedOut, directBy, directOf}
+use Rattle.direct.specs.Direct.{wordOf, forbidden, directTests, cellsAfter, answerOf, carriedOut, directBy, directOf}
 use Rattle.direct.specs.Laws.{direct-at}
 use Rattle.drive.specs.Active.{Available, available-tells}
 use Rattle.codec.specs.Fields.{commandOf}
@@ -118,18 +120,19 @@ read-hides image marks s cell hidden =
 
 -- ---- WRITE and ZEROIZE
 
-shown-least : (is-secret : Bool) (bound word : ℕ) → is-secret ≡ true → (answer : Answer) → answer ≡ cond (is-secret && short bound word) Withheld (Shown word)
+-- a pair of a secret partition that is shown has few zeros as it stands, and under the older guide, which shows all ones, none
+shown-least : (x : Entry) (wide : Bool) (bound word : ℕ) → secret x ≡ true → wide ≡ true → (answer : Answer) → answer ≡ answerOf (Zeroize 0) x wide bound word
     → shows answer ≡ true → zerosOf (shownWord answer) ≤ 64 - bound
-shown-least true bound word s answer e y =
+shown-least x wide bound word s w answer e y =
     ⊎-elim
-    (λ (t : short bound word ≡ true). let q : answer ≡ Withheld = e ∙ rw t in absurd (false≢true (rw q at y)))
+    (λ (t : short bound word ≡ true). let q : answer ≡ Withheld = e ∙ rw (s, t) in absurd (false≢true (rw q at y)))
     (λ (t : short bound word ≡ false).
-    let q : answer ≡ Shown word = e ∙ rw t in
+    let q : answer ≡ Shown (cond (olderGuide x) allOnes word) = e ∙ rw (s, t, w) in
     let enough : bound ≤ onesOf word = ltb-false (onesOf word) bound t in
+    let none : zerosOf allOnes ≤ 64 - bound = rw ones-all (omega arith) in
     let few : 64 - onesOf word ≤ 64 - bound = omega arith in
-    rw q few)
+    rw q (cond-keeps (λ (shown : ℕ). zerosOf shown ≤ 64 - bound) (olderGuide x) allOnes word (λ _. none) (λ _. few)))
     (decided (short bound word))
-shown-least false bound word s answer e y = absurd (false≢true s)
 
 module _ (image marks : List ℕ) (s : State) (cell : ℕ) (hidden : Secret image cell) where
   found : Lookup
@@ -145,7 +148,7 @@ module _ (image marks : List ℕ) (s : State) (cell : ℕ) (hidden : Secret imag
       (λ n _. refl)
       (λ h. rw (hidden .is-secret)))
 
-  -- "A value given in answer to ZEROIZE from a secret partition thus has at most 64 - B zeros"
+  -- "A value given in answer to ZEROIZE from a secret partition thus has at most 64 - B zeros", under either guide
   pub zeroize-shows : shows (directOf image marks (Zeroize cell) s .told) ≡ true → zerosOf (shownWord (directOf image marks (Zeroize cell) s .told)) ≤ 64 - headerOf image .bound
   unfolding found carriedOut
   zeroize-shows =
@@ -153,7 +156,10 @@ module _ (image marks : List ℕ) (s : State) (cell : ℕ) (hidden : Secret imag
       (first-elim (λ (o : Outcome Answer State). shows (o .told) ≡ true → zerosOf (shownWord (o .told)) ≤ 64 - headerOf image .bound) (refusing Refused s)
       (directTests found (Zeroize cell) image marks s) (carriedOut found (Zeroize cell) image marks s)
       (λ n _ y. absurd (false≢true y))
-      (λ h y. shown-least (secret (entryOf image (hidden .partition))) (headerOf image .bound) _ (hidden .is-secret) _ refl y))
+      (λ h y.
+      let good : mapGood image ≡ true = not-false _ (h 0) in
+      let wide = secret-wide image good (word-tells image good cell (hidden .partition) (hidden .role) (hidden .wide) (sym (hidden .starts))) (hidden .is-secret) in
+      shown-least (entryOf image (hidden .partition)) (hidden .wide) (headerOf image .bound) _ (hidden .is-secret) wide _ refl y))
 
 -- ---- loads
 

@@ -43,6 +43,11 @@ pub implies : (a b : Bool) → (not a || b) ≡ true → a ≡ true → b ≡ tr
 implies true b e h = e
 implies false b e h = absurd (false≢true h)
 
+-- and back
+pub implied : (a b : Bool) → (a ≡ true → b ≡ true) → (not a || b) ≡ true
+implied true b h = h refl
+implied false b h = refl
+
 -- not both of two tests
 pub not-both : (a b : Bool) → not (a && b) ≡ true → a ≡ true → b ≡ false
 not-both true true e h = sym e

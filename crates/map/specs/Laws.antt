@@ -16,8 +16,8 @@ use Rattle.laws.specs.Below.{allBelow, all-at}
 use Rattle.endian.specs.Endian.{byteAt, u16At, byte-part, u16-part}
 use Rattle.map.specs.declared.Header.{Header}
 use Rattle.map.specs.declared.Entry.{Entry}
-use Rattle.map.specs.Map.{headerOf, entryPlace, entryAt, entryOf, endOf, hardware, lifeCycle, zeroizable, secret, slot, headerGood, fillerGood, entryGood}
-use Rattle.map.specs.Map.{endBefore, placeGood, mapGood}
+use Rattle.map.specs.Map.{headerOf, entryPlace, entryAt, entryOf, endOf, hardware, lifeCycle, zeroizable, secret, slot, olderGuide}
+use Rattle.map.specs.Map.{headerGood, fillerGood, entryGood, endBefore, placeGood, mapGood}
 
 -- past the header a byte of the filler is good where it is zero
 pub filler-is : (s : List ℕ) (k : ℕ) → 8 ≤ k → fillerGood s k ≡ eqb (byteAt s k) 0
@@ -112,7 +112,7 @@ rules-header h len r =
 
 pub record EntryRules (before cells : ℕ) (x : Entry) : Type 0 where
   pub kind-known : x .kind ≤ 2
-  pub flags-known : x .flags ≤ 7
+  pub flags-known : x .flags ≤ 15
   pub first-even : x .first % 2 ≡ 0
   pub n-even : x .n % 2 ≡ 0
   pub n-least : 4 ≤ x .n
@@ -123,6 +123,7 @@ pub record EntryRules (before cells : ℕ) (x : Entry) : Type 0 where
   pub secret-hardware : secret x ≡ true → hardware x ≡ true
   pub slot-zeroizable : slot x ≡ true → zeroizable x ≡ true
   pub slot-secret : slot x ≡ true → secret x ≡ true
+  pub older-zeroizable : olderGuide x ≡ true → zeroizable x ≡ true
 
 pub entry-rules : (before cells : ℕ) (x : Entry) (spare : ℕ) → entryGood before cells x spare ≡ true → EntryRules before cells x
 unfolding entryGood
@@ -142,6 +143,7 @@ entry-rules before cells x spare g =
       secret-hardware = λ z. implies _ _ (rule 10) z;
       slot-zeroizable = λ z. both z .0;
       slot-secret = λ z. both z .1;
+      older-zeroizable = λ z. implies _ _ (rule 12) z;
     }
 
 pub map-parts : (s : List ℕ) → mapGood s ≡ true → (headerGood (headerOf s) (length s) ≡ true) × (allBelow (placeGood s) (headerOf s .partitions) ≡ true)

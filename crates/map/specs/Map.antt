@@ -1,5 +1,5 @@
--- Document 01, "The map of the fuses": what an image says, and the rules of a good one, a line each in the document's order.
--- Assumes nothing.
+-- Document 01, "The map of the fuses", with request P7: what an image says, and the rules of a good one, a line each in the document's
+-- order. Assumes nothing.
 use Prim.Native.Nat.{ℕ, _+_, _-_, _*_, _/_, _%_}
 use mathlib.Core.Bool.{Bool, cond, _&&_, _||_, not}
 use mathlib.Core.List.{List, [], _∷_}
@@ -51,6 +51,10 @@ secret x = eqb (x .flags / 2 % 2) 1
 abbrev pub slot : Entry → Bool
 slot x = eqb (x .flags / 4 % 2) 1
 
+-- request P7: "Flag 8 on a partition selects its ZEROIZE", the one of source document 000, "the older guide"
+abbrev pub olderGuide : Entry → Bool
+olderGuide x = eqb (x .flags / 8 % 2) 1
+
 -- the rules of the header, for an image of len bytes
 unfoldable pub headerGood : Header → (len : ℕ) → Bool
 headerGood h len =
@@ -81,8 +85,8 @@ entryGood before cells x spare =
     every (
     -- kind is 0, 1 or 2
     leb (x .kind) 2
-    -- higher bits of flags are zero
-    ∷ leb (x .flags) 7
+    -- bits of flags higher than 8 are zero
+    ∷ leb (x .flags) 15
     -- "two zero bytes"
     ∷ eqb spare 0
     -- "First and n are even"
@@ -100,6 +104,8 @@ entryGood before cells x spare =
     ∷ (not (secret x) || hardware x)
     -- "a slot must be zeroizable and secret"
     ∷ (not (slot x) || zeroizable x && secret x)
+    -- request P7: "1 for flag 8 exactly on a partition that is not zeroizable"
+    ∷ (not (olderGuide x) || zeroizable x)
     ∷ [])
 
 -- where the entry before entry i ends: 0 before the first

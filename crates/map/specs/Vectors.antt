@@ -43,10 +43,12 @@ broken =
     -- overlap by two, end past C, descending
     ∷ image 2 12 60 8 [] (entry 0 6 0 7 ++ entry 4 6 1 0) ∷ image 2 12 60 8 [] (entry 0 6 0 7 ++ entry 6 8 1 0)
     ∷ image 2 12 60 8 [] (entry 6 6 1 0 ++ entry 0 6 0 7)
-    -- kind 3, flag 8
-    ∷ one (entry 0 6 3 0) ∷ one (entry 0 6 0 8)
+    -- kind 3, flag 16
+    ∷ one (entry 0 6 3 0) ∷ one (entry 0 6 0 16)
     -- life cycle zeroizable, secret in kind 1, slot without secret, slot without zeroizable
     ∷ one (entry 0 6 2 1) ∷ one (entry 0 6 1 2) ∷ one (entry 0 6 0 5) ∷ one (entry 0 6 0 6)
+    -- request P7, flag 8 where nothing is zeroizable: alone in each kind, and with secret; in life cycle that is zeroizable, which is none
+    ∷ one (entry 0 6 0 8) ∷ one (entry 0 6 1 8) ∷ one (entry 0 6 2 8) ∷ one (entry 0 6 0 10) ∷ one (entry 0 6 2 9)
     -- each of the two zero bytes
     ∷ one (bytes2 0 ++ bytes2 6 ++ (0 ∷ 7 ∷ 1 ∷ 0 ∷ [])) ∷ one (bytes2 0 ++ bytes2 6 ++ (0 ∷ 7 ∷ 0 ∷ 1 ∷ []))
     ∷ []
@@ -62,12 +64,14 @@ edges =
     ∷ image 2 12 60 128 (replicate 120 0) two ∷ image 2 12 60 9 (0 ∷ []) two
     -- a gap; n 4 not zeroizable; life cycle; a zeroizable software partition
     ∷ image 2 14 60 8 [] (entry 0 6 0 7 ++ entry 8 6 1 0) ∷ one (entry 0 4 0 0) ∷ one (entry 0 6 2 0) ∷ one (entry 0 6 1 1)
+    -- request P7: flag 8 with 1, in kinds 0 and 1; with 1 and 2; with 7
+    ∷ one (entry 0 6 0 9) ∷ one (entry 0 6 1 9) ∷ one (entry 0 6 0 11) ∷ one (entry 0 6 0 15)
     ∷ []
 
 -- an image that is empty or cut is no map
 cut : List (List ℕ)
 cut = [] ∷ (2 ∷ []) ∷ (2 ∷ 0 ∷ 12 ∷ 0 ∷ 60 ∷ 0 ∷ 8 ∷ []) ∷ image 2 12 60 8 [] [] ∷ []
 
-rules : (map mapGood broken ≡ replicate 27 false) × (map mapGood edges ≡ replicate 12 true) × (map mapGood cut ≡ replicate 4 false)
+rules : (map mapGood broken ≡ replicate 32 false) × (map mapGood edges ≡ replicate 16 true) × (map mapGood cut ≡ replicate 4 false)
 unfolding broken edges cut mapGood every headerGood fillerGood entryGood placeGood allBelow u16At
 rules = (refl, refl, refl)

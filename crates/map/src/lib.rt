@@ -6,7 +6,8 @@ ghost use mathlib.Core.Path.{_≡_};
 ghost use Prim.Native.Nat.{_+_, _*_, _^_, _<_, _≤_};
 ghost use lib.ListN.{length};
 ghost use Rattle.laws.specs.Below.{allBelow};
-ghost use Rattle.map.specs.Map.{headerOf, entryAt, entryOf, endOf, software, zeroizable, secret, slot, headerGood, fillerGood, entryGood, placeGood, mapGood};
+ghost use Rattle.map.specs.Map.{headerOf, entryAt, entryOf, endOf, software, zeroizable, secret, slot, olderGuide};
+ghost use Rattle.map.specs.Map.{headerGood, fillerGood, entryGood, placeGood, mapGood};
 
 // The four numbers at the start of an image.
 pub struct Header {
@@ -107,6 +108,13 @@ pub fn is_slot(x: Entry) -> bool
     x.flags / 4 % 2 == 1
 }
 
+// Whether a partition is on the older guide, by which ZEROIZE answers all ones.
+pub fn is_on_older_guide(x: Entry) -> bool
+    ensures { λ r. ⌜ r ≡ olderGuide x ⌝ }
+{
+    x.flags / 8 % 2 == 1
+}
+
 // Whether the header of an image of `len` bytes keeps its rules.
 fn header_good(h: Header, len: usize) -> bool
     ensures { λ r. ⌜ r ≡ headerGood h len ⌝ }
@@ -145,9 +153,10 @@ fn entry_good(before: usize, cells: u16, x: Entry, spare: u16) -> bool
     let zeroizable = is_zeroizable(x);
     let secret = is_secret(x);
     let slot = is_slot(x);
+    let older = is_on_older_guide(x);
     let end = end_of(x);
     (x.kind <= 2)
-        & (x.flags <= 7)
+        & (x.flags <= 15)
         & (spare == 0)
         & (x.first % 2 == 0)
         & (x.n % 2 == 0)
@@ -158,6 +167,7 @@ fn entry_good(before: usize, cells: u16, x: Entry, spare: u16) -> bool
         & !((x.kind == LIFE_CYCLE) & zeroizable)
         & (!secret | (x.kind == HARDWARE))
         & (!slot | zeroizable & secret)
+        & (!older | zeroizable)
 }
 
 // Whether the entries of an image with this header, as long as it says, keep their rules. Each is read

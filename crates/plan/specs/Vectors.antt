@@ -47,6 +47,14 @@ rules :
 unfolding writingOf hasForm planOf readOf imageOf flatMap mapGood every headerGood fillerGood entryGood placeGood allBelow u16At
 rules = refl
 
+-- request P7, flag 8: with 7 and with 1, with 1 and 2; alone, and in life cycle
+guides :
+    map (told 136)
+    (text "12 60\n0 6 0 15\n6 6 1 9\n" ∷ text "12 60\n0 6 0 11\n" ∷ text "12 60\n0 6 0 8\n" ∷ text "12 60\n0 6 2 8\n" ∷ text "12 60\n0 6 2 9\n" ∷ [])
+    ≡ Written 24 ∷ Written 16 ∷ replicate 3 (Refused 1)
+unfolding writingOf hasForm planOf readOf imageOf flatMap mapGood every headerGood fillerGood entryGood placeGood allBelow u16At
+guides = refl
+
 -- the room: one byte short, and none; just enough; of a map that breaks a rule too, 16 comes before 1
 rooms :
     map (λ (r : ℕ × List ℕ). told (r .0) (r .1))

@@ -1,7 +1,8 @@
 /* Document 01, "The small drive", from C: the direct commands, which the example does not
  * show, and every field of their answers, of a mailbox's reply, an erasure that is refused and
- * one that ends with a short indicator and, by document 02, P1, P2, P5 and P6, of reasons, of
- * maps that are written, of a place after each reply of the engine, and of a table of handles. */
+ * one that ends with a short indicator and, by document 02, P1, P2, P5, P6 and P7, of reasons, of
+ * maps that are written, of a place after each reply of the engine, of a table of handles, and of
+ * ZEROIZE on the older guide. */
 #include "sciambrunola.h"
 
 #include <inttypes.h>
@@ -43,6 +44,27 @@ static void print_answer(const char *name, sci_answer answer)
 {
     printf("%s: kind %" PRIu32 ", refusal %" PRIu32 ", word %" PRIu64 "\n", name,
            answer.kind, answer.refusal, answer.word);
+}
+
+/* A board on the older guide, with stuck fuses in cells 1, 3 and 7. */
+static void print_older(void)
+{
+    static const uint8_t older[] = {
+        2, 0, 12, 0, 60, 0, 8, 0, /* P, C, B, E */
+        0, 0, 6, 0, SCI_KIND_HARDWARE,
+        SCI_FLAG_ZEROIZABLE + SCI_FLAG_SECRET + SCI_FLAG_SLOT + SCI_FLAG_OLDER_GUIDE, 0, 0,
+        6, 0, 6, 0, SCI_KIND_SOFTWARE, SCI_FLAG_ZEROIZABLE + SCI_FLAG_OLDER_GUIDE, 0, 0
+    };
+    static uint32_t fuses[CELLS] = {1};
+    static const uint32_t stuck[CELLS] = {0, 0x0F, 0, 0x1F, 0, 0, 0, 0x1F};
+    static const uint32_t words[] = {0, 2, 7};
+    size_t i;
+    for (i = 0; i < sizeof words / sizeof words[0]; i++) {
+        printf("older guide, ");
+        print_answer("ZEROIZE", sci_zeroize(older, sizeof older, fuses, CELLS, stuck, CELLS,
+                                            &context, words[i]));
+    }
+    printf("cells 1, 3 and 7: %" PRIX32 " %" PRIX32 " %" PRIX32 "\n", fuses[1], fuses[3], fuses[7]);
 }
 
 static void print_erasure(sci_erasure erasure)
@@ -172,6 +194,7 @@ int main(void)
     print_answer("WRITE 0", sci_write(DRIVE, 0, 5));
     print_answer("ZEROIZE 4", sci_zeroize(WEAK, 4));
     print_answer("ZEROIZE 6", sci_zeroize(DRIVE, 6));
+    print_older();
     print_erasure(sci_erase(DRIVE, 0));
     print_erasure(sci_erase(WEAK, 0));
     print_handles();

@@ -1,14 +1,15 @@
 //! Copies of the model with one fault each, for the tests of the tests: one for each thing that a
 //! comparison looks at, for each clause of a history one that breaks it, wrong states, reasons and
-//! maps, wrong places, orders and replies, and wrong tables and handles. That the proofs refuse
-//! faults of the key block itself is shown by the edits in `crates/*/must-fail`.
+//! maps, wrong places, orders and replies, wrong tables and handles, and wrong words of ZEROIZE. That
+//! the proofs refuse faults of the key block itself is shown by the edits in `crates/*/must-fail`.
 
 mod engine;
+mod guides;
 mod handles;
 mod made;
 mod maps;
 
-pub use made::{of_engine, of_handles};
+pub use made::{of_engine, of_guides, of_handles};
 pub use maps::OF_MAPS;
 
 use crate::layout::Layout;

@@ -1,12 +1,13 @@
 //! Generated maps: good ones, and good ones with one thing damaged.
 
 use crate::random::Random;
-use model::{entry, Entry, Image, HARDWARE, LIFE_CYCLE, SECRET, SLOT_FLAGS, SOFTWARE, ZEROIZABLE};
+use model::{entry, Entry, Header, Image, SLOT_FLAGS};
+use model::{HARDWARE, LIFE_CYCLE, OLDER_GUIDE, SECRET, SOFTWARE, ZEROIZABLE};
 
 /// The most cells of a map.
 pub const MOST_CELLS: usize = 2048;
 
-/// The kinds and flags a good entry may have. Slots stand there more than once,
+/// The kinds and flags a good entry may have, without flag 8. Slots stand there more than once,
 /// so that drives with several slots are common.
 const GOOD_KINDS: [(u8, u8); 11] = [
     (HARDWARE, SLOT_FLAGS),
@@ -71,7 +72,7 @@ pub fn longest(random: &mut Random) -> Image {
 fn filled(random: &mut Random, count: usize) -> Image {
     let n = MOST_CELLS / count;
     let made = |number: usize, (kind, flags)| entry((number * n) as u16, n as u16, kind, flags);
-    let entries = (0..count).map(|number| made(number, random.pick(&GOOD_KINDS))).collect();
+    let entries = (0..count).map(|number| made(number, good_kind(random))).collect();
     let (bound, _) = good_header(random);
     Image { cells: MOST_CELLS as u16, bound, entries_at: 128, entries }
 }
@@ -88,9 +89,16 @@ pub fn damaged(random: &mut Random, mut image: Image) -> Vec<u8> {
     bytes
 }
 
+/// A kind and flags that a good entry may have: a third of the zeroizable ones on the older guide.
+fn good_kind(random: &mut Random) -> (u8, u8) {
+    let (kind, flags) = random.pick(&GOOD_KINDS);
+    let older = flags & ZEROIZABLE != 0 && random.one_in(3);
+    (kind, if older { flags | OLDER_GUIDE } else { flags })
+}
+
 /// An entry of at most `share` cells, a gap before it included.
 fn good_entry(random: &mut Random, free: usize, share: usize) -> Entry {
-    let (kind, flags) = random.pick(&GOOD_KINDS);
+    let (kind, flags) = good_kind(random);
     let least = if flags & ZEROIZABLE != 0 { 6 } else { 4 };
     let n = match random.below(8) {
         0..=2 => least,
@@ -122,10 +130,19 @@ pub fn damage_field(random: &mut Random, image: &mut Image) {
         5 => hurt.first = hurt.first.wrapping_add(random.pick(&[1, 2, 0xFFFE, 0xFFFF])),
         6 => hurt.n = hurt.n.wrapping_add(random.pick(&[1, 2, 0xFFFE, 0xFFFF])),
         7 => hurt.kind = random.below(4) as u8,
-        8 => hurt.flags = random.below(16) as u8,
+        8 => hurt.flags = random.below(32) as u8,
         9 => hurt.zeros[random.below(2)] = random.byte(),
         10 => image.cells = image.cells.wrapping_sub(random.between(1, 8) as u16),
         _ => image.entries.rotate_left(at),
+    }
+}
+
+/// Turns flag 8 of an entry, where the image has one.
+pub fn turn_guide(random: &mut Random, bytes: &mut [u8]) {
+    let Some(header) = Header::read(bytes) else { return };
+    let entry = random.below(usize::from(header.partitions).max(1));
+    if let Some(flags) = bytes.get_mut(usize::from(header.entries_at) + 8 * entry + 5) {
+        *flags ^= OLDER_GUIDE;
     }
 }
 

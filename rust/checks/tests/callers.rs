@@ -2,7 +2,9 @@
 //! written from the documents. Every fuse of the indicator is stuck: it stops an erasure, so that
 //! the slot is still programmed and its HEK available. On another drive, with the mark 1F on cell 5
 //! instead, ZEROIZE gives the indicator 59 ones, one below the bound, and withholds it; the erasure
-//! that follows ends with that pair short. Other cells have the indicator set and three fuses of
+//! that follows ends with that pair short. On a board on the older guide a secret pair of 60 ones
+//! is told as 64, one of 59 is withheld, and a word of one cell that lacks five is told as 32.
+//! Other cells have the indicator set and three fuses of
 //! the digest: they are torn. EHDL is refused while there is no table. No table is made of no
 //! handle, of four, of two that are equal, or of handles that are not as many as their algorithms;
 //! then one is made, and a second is refused. Its first handle is two below the last number: two
@@ -24,6 +26,10 @@ READ 7: kind 0, refusal 0, word 137
 WRITE 0: kind 1, refusal 0, word 0
 ZEROIZE 4: kind 2, refusal 0, word 0
 ZEROIZE 6: kind 3, refusal 8, word 0
+older guide, ZEROIZE: kind 0, refusal 0, word 18446744073709551615
+older guide, ZEROIZE: kind 2, refusal 0, word 0
+older guide, ZEROIZE: kind 0, refusal 0, word 4294967295
+cells 1, 3 and 7: FFFFFFF0 FFFFFFE0 FFFFFFE0
 erasure: kind 2, refusal 15, short 0, first 0, burns 1
 erasure: kind 0, refusal 0, short 1, first 4, burns 3
 EHDL: refusal 2, length 0, order 0, place 0, timeout 0; place 0: kind 0, tag 0

@@ -5,7 +5,8 @@ use checks::drives;
 use checks::programs::{printed, PROGRAMS};
 use checks::random::Random;
 use model::map::{broken_rules, Rule};
-use model::{entry, Image, HARDWARE, LIFE_CYCLE, SECRET, SLOT, SLOT_FLAGS, SOFTWARE, ZEROIZABLE};
+use model::{entry, Image, SLOT_FLAGS};
+use model::{HARDWARE, LIFE_CYCLE, OLDER_GUIDE, SECRET, SLOT, SOFTWARE, ZEROIZABLE};
 use Rule::*;
 
 /// A name, an image, and the rules that it breaks: a good image breaks none.
@@ -115,7 +116,6 @@ fn kinds() -> Vec<Case> {
     vec![
         ("kind 3", last(3, 0), &[Kind]),
         ("kind 128", last(128, 0), &[Kind]),
-        ("flag 8", last(HARDWARE, 8), &[HigherFlags]),
         ("flag 16", last(HARDWARE, 16), &[HigherFlags]),
         ("flag 32", last(HARDWARE, 32), &[HigherFlags]),
         ("flag 64", last(HARDWARE, 64), &[HigherFlags]),
@@ -126,6 +126,11 @@ fn kinds() -> Vec<Case> {
         ("slot without secret", last(HARDWARE, SLOT | ZEROIZABLE), &[SlotIsSecret]),
         ("slot without zeroizable", last(HARDWARE, SLOT | SECRET), &[SlotIsZeroizable]),
         ("software slot without secret", last(SOFTWARE, SLOT | ZEROIZABLE), &[SlotIsSecret]),
+        ("flag 8 alone", last(HARDWARE, OLDER_GUIDE), &[OlderGuideIsZeroizable]),
+        ("flag 8 alone in kind 1", last(SOFTWARE, OLDER_GUIDE), &[OlderGuideIsZeroizable]),
+        ("flag 8 alone in kind 2", last(LIFE_CYCLE, OLDER_GUIDE), &[OlderGuideIsZeroizable]),
+        ("flag 8 with 1 in kind 2", last(LIFE_CYCLE, 9), &[LifeCycleNotZeroizable]),
+        ("flag 8 with 2", last(HARDWARE, OLDER_GUIDE | SECRET), &[OlderGuideIsZeroizable]),
         ("byte 6 of entry 0", with(|map| map.entries[0].zeros[0] = 1), &[EntryZeros]),
         ("byte 7 of entry 0", with(|map| map.entries[0].zeros[1] = 1), &[EntryZeros]),
         ("byte 6 of entry 1", with(|map| map.entries[1].zeros[0] = 128), &[EntryZeros]),
@@ -135,6 +140,10 @@ fn kinds() -> Vec<Case> {
         ("hardware secret", last(HARDWARE, SECRET), &[]),
         ("hardware zeroizable and secret", last(HARDWARE, ZEROIZABLE | SECRET), &[]),
         ("a second slot", last(HARDWARE, SLOT_FLAGS), &[]),
+        ("flag 8 with 1", last(HARDWARE, OLDER_GUIDE | ZEROIZABLE), &[]),
+        ("flag 8 with 1 in kind 1", last(SOFTWARE, OLDER_GUIDE | ZEROIZABLE), &[]),
+        ("flag 8 with 1 and 2", last(HARDWARE, OLDER_GUIDE | ZEROIZABLE | SECRET), &[]),
+        ("flag 8 with 7", last(HARDWARE, OLDER_GUIDE | SLOT_FLAGS), &[]),
         ("life cycle", last(LIFE_CYCLE, 0), &[]),
     ]
 }

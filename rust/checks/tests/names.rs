@@ -11,11 +11,11 @@ use std::process::Command;
 
 /// Every name of the header after `SCI_`, in its order, with its number in hexadecimal.
 const HEADER: &str = "\
-VERSION A
+VERSION B
 PLACES 10, HANDLES 3, CONTEXT_WORDS 26, BLOCK_BYTES 80, LEAST_RESPONSE 28
 PARTITIONS 10, LONGEST_IMAGE 88
 KIND_HARDWARE 0, KIND_SOFTWARE 1, KIND_LIFE_CYCLE 2
-FLAG_ZEROIZABLE 1, FLAG_SECRET 2, FLAG_SLOT 4
+FLAG_ZEROIZABLE 1, FLAG_SECRET 2, FLAG_SLOT 4, FLAG_OLDER_GUIDE 8
 REFUSAL_MAP 1, REFUSAL_LENGTHS 2, REFUSAL_CODE 3, REFUSAL_REQUEST_LENGTH 4
 REFUSAL_CHKSUM 5, REFUSAL_RESERVED 6, REFUSAL_NOT_FOUND 7, REFUSAL_FORBIDDEN 8
 REFUSAL_CLEARS_FUSE 9, REFUSAL_KEYS_HELD A, REFUSAL_NO_HEK B, REFUSAL_TAG_HELD C
@@ -70,7 +70,8 @@ fn names_of_the_safe_calls_have_the_documents_numbers() {
     assert_eq!(codes, [0x434C_4B43, 0x4B4C_4F44, 0x4B55_4E4C, 0x4645_5253, 0x4653_5441]);
     assert_eq!([code::EHDL, code::RHPK], [0x4548_444C, 0x5248_504B]);
     assert_eq!([kind::HARDWARE, kind::SOFTWARE, kind::LIFE_CYCLE], [0, 1, 2]);
-    assert_eq!([flag::ZEROIZABLE, flag::SECRET, flag::SLOT], [1, 2, 4]);
+    let flags = [flag::ZEROIZABLE, flag::SECRET, flag::SLOT, flag::OLDER_GUIDE];
+    assert_eq!(flags, [1, 2, 4, 8]);
     assert_eq!([sciambrunola::BLOCK_BYTES, sciambrunola::LEAST_RESPONSE], [128, 40]);
     assert_eq!([sciambrunola::PLACES, sciambrunola::PARTITIONS], [16, 16]);
     assert_eq!([sciambrunola::HANDLES, sciambrunola::LONGEST_IMAGE], [3, 136]);

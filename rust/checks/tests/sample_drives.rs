@@ -12,8 +12,9 @@ use std::collections::BTreeSet;
 use std::fs;
 
 /// The samples of other drives than the small one, with the partitions that were erased.
-const OF_OTHERS: [(&str, &[usize]); 4] = [
+const OF_OTHERS: [(&str, &[usize]); 5] = [
     ("customers_number", &[0]),
+    ("older_guide", &[0, 1]),
     ("torn_slot_first", &[0]),
     ("torn_slot_second", &[0, 1]),
     ("two_slots", &[0, 3, 4]),

@@ -1,4 +1,4 @@
-//! Document 01, "Direct commands", as P4 of document 02 changes WRITE.
+//! Document 01, "Direct commands", as P4 of document 02 changes WRITE, and P7 ZEROIZE.
 
 use crate::fuse;
 use crate::lent::Lent;
@@ -63,12 +63,18 @@ fn carry_out(lent: &mut Lent, command: Command) -> Answer {
     }
     let now_stands = fuse::word(&drive.cells, command.cell(), word.size);
     let reaches_bound = u64::from(now_stands.count_ones()) >= map.bound();
-    let secret = map.entries()[word.partition].secret();
+    let entry = map.entries()[word.partition];
+    let secret = entry.secret();
     match command {
         // "the word as it now stands, or done in a secret partition"
         Command::Write { .. } if secret => Answer::Done,
         // "in a secret partition only if its ones reach B, otherwise withheld"
         Command::Zeroize { .. } if secret && !reaches_bound => Answer::Withheld,
+        // P7: "the answer is all ones at the word's width, stuck fuses or not"
+        Command::Zeroize { .. } if entry.older_guide() => match word.size {
+            Size::Cell => Answer::Word(0xFFFF_FFFF),
+            Size::Pair => Answer::Word(0xFFFF_FFFF_FFFF_FFFF),
+        },
         _ => Answer::Word(now_stands),
     }
 }

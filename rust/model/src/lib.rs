@@ -39,7 +39,7 @@ pub use mailbox::fields::Command as Mail;
 pub use mailbox::request::{Request, Values};
 pub use mailbox::{Order, Reply};
 pub use map::{Entry, Header, Map, Part, Size, Word};
-pub use map::{HARDWARE, LIFE_CYCLE, SECRET, SLOT, SOFTWARE, ZEROIZABLE};
+pub use map::{HARDWARE, LIFE_CYCLE, OLDER_GUIDE, SECRET, SLOT, SOFTWARE, ZEROIZABLE};
 pub use partition::{Partition, State};
 pub use refusal::Refusal;
 pub use why::Reason;

@@ -9,11 +9,16 @@ use crate::raw;
 #[derive(Clone, Copy, Debug, PartialEq, Eq)]
 pub enum Answer {
     /// The word, as it stands after the command.
+    ///
+    /// In a partition on the older guide ([`flag::OLDER_GUIDE`](crate::flag::OLDER_GUIDE)) ZEROIZE
+    /// answers all ones at the word's width instead, 32 or 64, though stuck fuses may be unset.
+    /// Whether a partition is erased its state tells, and not this word: see
+    /// [`states`](crate::states).
     Word(u64),
     /// Carried out; a word of a secret partition is not shown.
     Done,
     /// ZEROIZE was carried out, but too few fuses of the secret word are set
-    /// for it to be shown.
+    /// for it to be shown; on the older guide too.
     Withheld,
     /// Refused with this number; nothing has changed.
     Refused(u32),

@@ -2,7 +2,7 @@
 
 /// The version of the header and of the archive: it grows by one whenever something
 /// changes for a caller (`docs/CHANGES.md`).
-pub const VERSION: u32 = 10;
+pub const VERSION: u32 = 11;
 /// The bytes of the engine block.
 pub const BLOCK_BYTES: usize = 128;
 /// The bytes of the shortest response buffer that any command accepts: those of the longest
@@ -60,6 +60,9 @@ pub mod flag {
     pub const SECRET: u32 = 2;
     /// It is a slot of the HEK.
     pub const SLOT: u32 = 4;
+    /// Its ZEROIZE is that of the older guide, whose answer tells nothing of stuck fuses: see
+    /// [`Answer::Word`](crate::Answer::Word). Only a zeroizable partition has it.
+    pub const OLDER_GUIDE: u32 = 8;
 }
 
 /// The refusal numbers.

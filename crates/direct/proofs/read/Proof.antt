@@ -52,8 +52,7 @@ returns-3 c =
     let e = found-is _ _ _ _ (looked .before .check-drive .ensures) (looked .find .ensures) (found .partition .given .1) in
     let passed = c .before in
     let may = sym (read-forbidden _ _ (passed .before .before .read-entry .ensures) _ _ _ _ (passed .before .is-secret .ensures)) ∙ passed .if1 .left in
-    λ context. word-carried _ _ _ _ e (may, (refl, (refl, tt))) refl refl (passed .before .before .read-entry .ensures) (c .word-of .ensures)
-    (passed .before .is-secret .ensures) refl
+    λ context. word-carried _ _ _ _ e (may, (refl, (refl, tt))) refl refl (passed .before .before .read-entry .ensures) (c .word-of .ensures) refl
 
 pub read-spec : {M : Type 1} → statement M
 read-spec =

@@ -100,12 +100,9 @@ burn-word-requires c κs =
     let n = named _ _ _ _ (at-word (found-before (c .before .before .before .before .before))) in
     (n .within, rw (n .marks-long) (n .within))
 
-is-secret-requires : tie.Need-is-secret-requires
-is-secret-requires c κs = search needs
-
 written-requires : tie.Need-written-requires
 written-requires c κs =
-    let passed = c .before .before .before .before .before .before .before .before .before .before in
+    let passed = c .before .before .before .before .before .before .before .before .before in
     search (needs, named _ _ _ _ (at-word (found-before passed)) .within)
 
 same-length-4 : tie.Need-same-length-4
@@ -122,13 +119,13 @@ same-length-5 c = search needs
 returns-5 : tie.Need-returns-5
 unfolding changesSlot cellsAfter
 returns-5 c =
-    let burned = c .before .before .before .before .before in
+    let burned = c .before .before .before .before in
     let idle = burned .before .before in
     let kept = idle .before in
     let passed = kept .before .before .before in
     let free = sym (passed .before .before .before .before .before .before .is-slot-in-use .ensures) ∙ idle .if3 .left in
     word-carried _ _ _ _ (at-word (found-before passed)) (may passed, (keeps kept, (free, tt))) (burned .burn-word .ensures) refl
-    (passed .before .before .before .read-entry .ensures) refl (c .before .is-secret .ensures) (c .written .ensures)
+    (passed .before .before .before .read-entry .ensures) refl (c .written .ensures)
 
 pub write-spec : {M : Type 1} → statement M
 write-spec =
@@ -150,7 +147,6 @@ write-spec =
     same-length-3
     returns-3
     burn-word-requires
-    is-secret-requires
     written-requires
     same-length-4
     returns-4

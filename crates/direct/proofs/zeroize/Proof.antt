@@ -68,9 +68,6 @@ word-of-requires c κs =
     let found = c .before .before .before .before .before .before .before .before .before .before .before .before in
     search (needs, named _ _ _ _ (at-word found) .within)
 
-is-secret-requires : tie.Need-is-secret-requires
-is-secret-requires c κs = search needs
-
 cast-zeroized : tie.Need-cast-zeroized
 cast-zeroized c = search needs
 
@@ -91,14 +88,14 @@ same-length-4 c = search needs
 returns-4 : tie.Need-returns-4
 unfolding clears changesSlot cellsAfter
 returns-4 c =
-    let burned = c .before .before .before .before .before .before .before in
+    let burned = c .before .before .before .before .before .before in
     let idle = burned .before .before in
     let passed = idle .before .before in
     let found = passed .before .before .before .before .before in
     let may = sym (zeroize-forbidden _ _ (passed .before .before .read-entry .ensures) _ _ _ _ (passed .before .is-zeroizable .ensures)) ∙ passed .if1 .left in
     let free = sym (idle .before .is-slot-in-use .ensures) ∙ idle .if2 .left in
     word-carried _ _ _ _ (at-word found) (may, (refl, (free, tt))) (burned .burn-word .ensures) (passed .before .before .before .read-header .ensures)
-    (passed .before .before .read-entry .ensures) (c .before .before .before .word-of .ensures) (c .before .before .is-secret .ensures) (c .zeroized .ensures)
+    (passed .before .before .read-entry .ensures) (c .before .before .word-of .ensures) (c .zeroized .ensures)
 
 pub zeroize-spec : {M : Type 1} → statement M
 zeroize-spec =
@@ -118,7 +115,6 @@ zeroize-spec =
     returns-2
     burn-word-requires
     word-of-requires
-    is-secret-requires
     cast-zeroized
     zeroized-requires
     same-length-3

@@ -1,4 +1,5 @@
 -- `drive::is_slot_in_use` meets its contract: at the entry that was read. Assumes nothing.
+use mathlib.Core.Path.{refl, _∙_}
 use borrow.Author.Needs.{needs}
 use Rattle.drive.specs.Laws.{in-use-is}
 use Rattle.drive.proofs.is_slot_in_use.Statement.{statement}
@@ -14,8 +15,16 @@ has-place-requires : tie.Need-has-place-requires
 has-place-requires c κs = search needs
 
 returns : tie.Need-returns
-returns c = in-use-is _ _ (c .before .before .read-entry .ensures) _ (c .before .is-slot .ensures) (c .has-place .ensures)
+returns c =
+    let asked = c .before .before in
+    rw (c .before .if1 .taken) at (in-use-is _ _ (asked .before .read-entry .ensures) _ (asked .is-slot .ensures) (c .has-place .ensures))
+
+returns-2 : tie.Need-returns-2
+returns-2 c =
+    let asked = c .before in
+    c .if1 .left
+    ∙ (rw (c .if1 .left) at (in-use-is _ _ (asked .before .read-entry .ensures) (asked .before .before .before .args .context .now) (asked .is-slot .ensures) refl))
 
 pub is-slot-in-use-spec : {M : Type 1} → statement M
 is-slot-in-use-spec =
-    tie.close (tie.spec read-entry-requires is-slot-requires has-place-requires returns)
+    tie.close (tie.spec read-entry-requires is-slot-requires has-place-requires returns returns-2)

@@ -14,6 +14,9 @@ is-secret-requires c κs = search needs
 is-slot-requires : tie.Need-is-slot-requires
 is-slot-requires c κs = search needs
 
+is-on-older-guide-requires : tie.Need-is-on-older-guide-requires
+is-on-older-guide-requires c κs = search needs
+
 end-of-requires : tie.Need-end-of-requires
 end-of-requires c κs = search needs
 
@@ -31,6 +34,7 @@ entry-good-spec =
     is-zeroizable-requires
     is-secret-requires
     is-slot-requires
+    is-on-older-guide-requires
     end-of-requires
     cast-result
     returns)

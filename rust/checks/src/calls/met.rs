@@ -124,6 +124,17 @@ impl<'a> Seen<'a> {
         self.named.map_or(false, named)
     }
 
+    /// Whether a direct command's word lies in a partition on the older guide.
+    pub fn older(&self) -> bool {
+        self.named.map_or(false, |named| named.entry.older_guide())
+    }
+
+    /// Whether a direct command's word has this size, and fuses of it are unset.
+    pub fn unset(&self, size: Size) -> bool {
+        let all = if size == Size::Cell { 0xFFFF_FFFF } else { u64::MAX };
+        self.named.map_or(false, |named| named.word.size == size && named.stands != all)
+    }
+
     /// Of a load: whether this holds of the places from the one it took on.
     pub fn loads(&self, holds: fn(&[Place]) -> bool) -> bool {
         match self.said {

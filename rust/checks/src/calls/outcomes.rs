@@ -29,7 +29,8 @@ const OUTCOMES: [(&str, &[&str], &[u32]); 21] = [
 ];
 
 /// The kinds and flags that a partition of a good map can have.
-const KINDS_AND_FLAGS: [&str; 8] = ["0/0", "0/1", "0/2", "0/3", "0/7", "1/0", "1/1", "2/0"];
+const KINDS_AND_FLAGS: [&str; 12] =
+    ["0/0", "0/1", "0/2", "0/3", "0/7", "0/9", "0/11", "0/15", "1/0", "1/1", "1/9", "2/0"];
 
 /// Every outcome of every call.
 pub fn outcomes() -> Vec<String> {

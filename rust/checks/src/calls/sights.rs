@@ -4,14 +4,38 @@
 use super::met::Seen;
 use crate::layout::Layout;
 use crate::tally::Row;
-use model::{Call, Command, Place, Said};
+use model::map::{broken_rules, Rule};
+use model::{Call, Command, Place, Said, Size};
 
 pub type Sight = fn(&Seen) -> bool;
 
 pub const ALL: &[Row<Sight>] = &[
-    ("secret word shown at B", |s| s.came == "ZEROIZE word" && s.word(true, 0)),
-    ("secret word withheld at B - 1", |s| s.came == "ZEROIZE withheld" && s.word(true, -1)),
-    ("open word shown at B - 1", |s| s.came == "ZEROIZE word" && s.word(false, -1)),
+    ("secret word shown at B", |s| s.came == "ZEROIZE word" && !s.older() && s.word(true, 0)),
+    ("secret word withheld at B - 1", |s| {
+        s.came == "ZEROIZE withheld" && !s.older() && s.word(true, -1)
+    }),
+    ("open word shown at B - 1", |s| s.came == "ZEROIZE word" && !s.older() && s.word(false, -1)),
+    ("32-bit word shown with unset fuses", |s| {
+        s.came == "ZEROIZE word" && !s.older() && s.unset(Size::Cell)
+    }),
+    ("older guide: secret word told at B", |s| {
+        s.came == "ZEROIZE word" && s.older() && s.word(true, 0)
+    }),
+    ("older guide: secret word withheld at B - 1", |s| {
+        s.came == "ZEROIZE withheld" && s.older() && s.word(true, -1)
+    }),
+    ("older guide: pair told with unset fuses", |s| {
+        s.came == "ZEROIZE word" && s.older() && s.unset(Size::Pair)
+    }),
+    ("older guide: 32-bit word told with unset fuses", |s| {
+        s.came == "ZEROIZE word" && s.older() && s.unset(Size::Cell)
+    }),
+    ("older guide: WRITE with unset fuses", |s| {
+        s.came == "WRITE word" && s.older() && s.unset(Size::Pair)
+    }),
+    ("1 for flag 8 alone", |s| {
+        s.refused(1) && broken_rules(&s.before.drive.image) == [Rule::OlderGuideIsZeroizable]
+    }),
     ("WRITE short of its value", |s| match (s.call, s.named) {
         (Call::Direct(Command::Write { value, .. }), Some(named)) => {
             s.said.refusal().is_none() && named.stands != *value

@@ -1,6 +1,6 @@
-//! A call as the model made it, and what faults of document 02's P5 and P6 ask of it or change.
+//! A call as the model made it, and what faults of document 02's P5, P6 and P7 ask of it or change.
 
-use super::{engine, handles};
+use super::{engine, guides, handles};
 use model::{Call, Erasure, Lent, Reply, Said};
 
 /// A call as the model made it; a fault changes what it said or left.
@@ -24,9 +24,14 @@ pub fn of_handles() -> impl Iterator<Item = &'static str> {
     handles::ALL.into_iter().map(|(name, _)| name)
 }
 
+/// The names of P7's faults.
+pub fn of_guides() -> impl Iterator<Item = &'static str> {
+    guides::ALL.into_iter().map(|(name, _)| name)
+}
+
 /// What is said with the fault of this name, if there is one and it shows.
 pub(super) fn faulty(name: &str, mut made: Made) -> Option<Said> {
-    let mut all = engine::ALL.into_iter().chain(handles::ALL);
+    let mut all = engine::ALL.into_iter().chain(handles::ALL).chain(guides::ALL);
     let (_, shows) = all.find(|(fault, _)| *fault == name)?;
     shows(&mut made).then_some(made.said)
 }

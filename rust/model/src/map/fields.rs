@@ -1,4 +1,5 @@
-//! Document 01, "The map of the fuses": the fields of the header and of an entry.
+//! Document 01, "The map of the fuses": the fields of the header and of an entry, with P7 of
+//! document 02.
 
 use std::ops::Range;
 
@@ -15,6 +16,8 @@ pub const ZEROIZABLE: u8 = 1;
 pub const SECRET: u8 = 2;
 /// "The map of the fuses": flag 4, HEK slot.
 pub const SLOT: u8 = 4;
+/// P7: flag 8, a board on the older guide.
+pub const OLDER_GUIDE: u8 = 8;
 
 /// "The map of the fuses": "Header, four u16", little-endian.
 #[derive(Clone, Copy, Debug, PartialEq, Eq)]
@@ -52,7 +55,7 @@ pub struct Entry {
     pub n: u16,
     /// Kind: 0 hardware, 1 software, 2 life cycle.
     pub kind: u8,
-    /// Flags: 1 zeroizable, 2 secret, 4 HEK slot.
+    /// Flags: 1 zeroizable, 2 secret, 4 HEK slot, 8 older guide.
     pub flags: u8,
     /// The "two zero bytes", as they stand in the image.
     pub zeros: [u8; 2],
@@ -92,6 +95,11 @@ impl Entry {
     /// "The map of the fuses": flag 4.
     pub fn slot(&self) -> bool {
         self.flags & SLOT != 0
+    }
+
+    /// P7: "Flag 8 on a partition selects its ZEROIZE".
+    pub fn older_guide(&self) -> bool {
+        self.flags & OLDER_GUIDE != 0
     }
 
     /// "The map of the fuses": how many cells, from the partition's first one

@@ -1,6 +1,7 @@
-//! Document 01, "The map of the fuses": every rule an image must keep.
+//! Document 01, "The map of the fuses": every rule an image must keep, with that of P7 of document
+//! 02.
 
-use super::fields::{Entry, Header, HARDWARE, LIFE_CYCLE, SECRET, SLOT, ZEROIZABLE};
+use super::fields::{Entry, Header, HARDWARE, LIFE_CYCLE, OLDER_GUIDE, SECRET, SLOT, ZEROIZABLE};
 
 /// One list for the rules: the document's words, the rule's name, and the test
 /// whether it holds of an image with this header and these entries.
@@ -15,7 +16,7 @@ macro_rules! rules {
 
         impl Rule {
             /// "The map of the fuses": all rules, in the order of its sentences.
-            pub const ALL: [Rule; 20] = [$(Rule::$name,)*];
+            pub const ALL: [Rule; 21] = [$(Rule::$name,)*];
 
             fn holds(self, $image: &[u8], $header: &Header, $entries: &[Entry]) -> bool {
                 match self { $(Rule::$name => $test,)* }
@@ -40,8 +41,8 @@ rules! {
     Length => image.len() == usize::from(header.entries_at) + 8 * usize::from(header.partitions),
     /// "u8 kind (0 hardware, 1 software, 2 life cycle)"
     Kind => every(entries, |e| e.kind <= LIFE_CYCLE),
-    /// "u8 flags (...; higher bits zero)"
-    HigherFlags => every(entries, |e| e.flags & !(ZEROIZABLE | SECRET | SLOT) == 0),
+    /// "u8 flags (...; higher bits zero)", flag 8 being a flag since P7
+    HigherFlags => every(entries, |e| e.flags & !(ZEROIZABLE | SECRET | SLOT | OLDER_GUIDE) == 0),
     /// "two zero bytes"
     EntryZeros => every(entries, |e| e.zeros == [0, 0]),
     /// "First and n are even", the first half of it
@@ -66,6 +67,8 @@ rules! {
     SlotIsZeroizable => every(entries, |e| !e.slot() || e.zeroizable()),
     /// "and secret"
     SlotIsSecret => every(entries, |e| !e.slot() || e.secret()),
+    /// P7: "1 for flag 8 exactly on a partition that is not zeroizable"
+    OlderGuideIsZeroizable => every(entries, |e| !e.older_guide() || e.zeroizable()),
 }
 
 /// "The map of the fuses": every rule the image breaks, in the order of

@@ -3,6 +3,7 @@
 //! follows from its rules.
 
 mod engine;
+mod guides;
 mod handles;
 mod map_text;
 mod why;

@@ -1,0 +1,51 @@
+-- Request P7: "only the answered word depends on the flag". Here is the claim of two maps that differ in flag 8 alone, over every list of
+-- calls of every entry point; the theorem is in `GuidesProof`. Assumes nothing.
+use Prim.Native.Nat.{ℕ}
+use mathlib.Core.Path.{_≡_}
+use mathlib.Core.Bool.{Bool, true, false}
+use mathlib.Core.List.{List}
+use Rattle.context.specs.State.{State}
+use Rattle.direct.specs.declared.Command.the-variants.{Read, Write, Zeroize}
+use Rattle.direct.specs.declared.Answer.{Answer}
+use Rattle.direct.specs.declared.Answer.the-variants.{Word as Shown, Done, Withheld, Refused}
+use Rattle.mailbox.specs.Mailbox.{Lent, mailboxOf}
+use Rattle.history.specs.Calls.{Call, Direct, Erase, EraseCut, Mailbox, TakeReply, MakeTable, Restart, Told, Answering, Erasing, Replying, Taking, Making, Silent}
+use Rattle.history.specs.Calls.{told, after, afterAll}
+
+-- an answer with its word left out
+abbrev pub wordless : Answer → Answer
+wordless (Shown word) = Shown 0
+wordless Done = Done
+wordless Withheld = Withheld
+wordless (Refused number) = Refused number
+
+-- what a call tells, the same
+abbrev pub wordlessTold : Told → Told
+wordlessTold (Answering answer) = Answering (wordless answer)
+wordlessTold (Erasing answer) = Erasing answer
+wordlessTold (Replying reply response) = Replying reply response
+wordlessTold (Taking answer) = Taking answer
+wordlessTold (Making answer) = Making answer
+wordlessTold Silent = Silent
+
+-- a call is a ZEROIZE
+abbrev pub zeroizes : Call → Bool
+zeroizes (Direct (Read cell)) = false
+zeroizes (Direct (Write cell value)) = false
+zeroizes (Direct (Zeroize cell)) = true
+zeroizes (Erase i) = false
+zeroizes (EraseCut i k mask) = false
+zeroizes (Mailbox code request response block) = false
+zeroizes (TakeReply reply) = false
+zeroizes (MakeTable handles algorithms) = false
+zeroizes Restart = false
+
+-- two maps by which every call tells and leaves the same, but for the word that a ZEROIZE answers
+pub record OnlyTheWord (image other marks : List ℕ) : Type 0 where
+  -- a call that is no ZEROIZE tells the same, the mailbox with all that it leaves; a ZEROIZE is refused alike and withheld alike
+  pub same-told : (call : Call) → zeroizes call ≡ false → (s : State) → told other marks call s ≡ told image marks call s
+  pub same-mailbox : (code : ℕ) (request : List ℕ) (l : Lent) → mailboxOf other marks code request l ≡ mailboxOf image marks code request l
+  pub same-but-word : (call : Call) (s : State) → wordlessTold (told other marks call s) ≡ wordlessTold (told image marks call s)
+  -- cells and context, after a call and after every list of calls
+  pub same-after : (call : Call) (s : State) → after other marks call s ≡ after image marks call s
+  pub same-after-all : (calls : List Call) (s : State) → afterAll other marks calls s ≡ afterAll image marks calls s
