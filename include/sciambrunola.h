@@ -63,7 +63,8 @@
  *   E on        P entries of 8 bytes, and nothing behind them: u16 first cell,
  *               u16 cells n, u8 kind (SCI_KIND_: 0 hardware, 1 software, 2 life
  *               cycle), u8 flags (SCI_FLAG_: 1 zeroizable, 2 secret, 4 HEK slot, 8
- *               older guide; higher bits zero), two zero bytes
+ *               older guide, by which ZEROIZE answers all ones, see sci_zeroize;
+ *               higher bits zero), two zero bytes
  * First and n are even, n at least 4, and at least 6 if zeroizable. Entries
  * ascend without overlap and end by C; gaps are allowed. Life cycle is never
  * zeroizable, secret needs kind 0, a slot is zeroizable and secret, and a partition on
@@ -373,7 +374,8 @@ typedef struct {
 typedef struct {
     uint32_t kind;    /* SCI_WORD, SCI_DONE, SCI_WITHHELD or SCI_REFUSED */
     uint32_t refusal; /* the refusal's number, 0 unless refused */
-    uint64_t word;    /* the word, 0 unless a word is answered */
+    uint64_t word;    /* the word, by ZEROIZE on the older guide all ones; 0 unless one
+                         is answered */
 } sci_answer;
 
 /* What an erasure answers. Look at the kind first. SCI_ENDED: the partition is erased
@@ -516,8 +518,9 @@ sci_answer sci_write(const uint8_t *image, size_t image_bytes,
  * In a partition on the older guide (SCI_FLAG_OLDER_GUIDE) all ones at the word's
  * width, 0xFFFFFFFF or 0xFFFFFFFFFFFFFFFF, are answered in the word's place; what burns,
  * what is withheld, by the ones of the word as it stands, and what is refused is the same.
- * Warning: on the older guide the answer tells nothing of stuck fuses. Whether a
- * partition is erased its state tells, by sci_states, and not this word.
+ * Warning: on the older guide the answered word tells nothing of stuck fuses; in a
+ * secret partition, only that the word's ones reach the bound. Whether a partition is
+ * erased its state tells, by sci_states, and not this word.
  * Refused: 1, 2, 7; 8 in a partition that is not zeroizable; 10.
  */
 SCI_ANSWER

@@ -84,7 +84,8 @@ module _ (marks : List ℕ) where
   grown-burn k false v cells = grown-cell k (v % 2 ^ 32) cells
 
   -- the cells beside a word, before it or behind it, stay as they are
-  pub burn-beside : (k : ℕ) (wide : Bool) (v : ℕ) (cells : List ℕ) (j : ℕ) → (j < k) ⊎ (k + cellsIn wide ≤ j) → getD (burnWord marks k wide v cells) j 0 ≡ getD cells j 0
+  pub burn-beside : (k : ℕ) (wide : Bool) (v : ℕ) (cells : List ℕ) (j : ℕ) → (j < k) ⊎ (k + cellsIn wide ≤ j)
+      → getD (burnWord marks k wide v cells) j 0 ≡ getD cells j 0
   burn-beside k wide v cells j beside =
       let one : 0 < 1 = omega arith in
       let apart : (k + cellsIn wide ≤ j) ⊎ (j + 1 ≤ k) = ⊎-elim (λ (l : j < k). inr (omega arith)) (λ (l : k + cellsIn wide ≤ j). inl l) beside in

@@ -61,7 +61,8 @@ zeroize-59 = refl
 
 -- on the older guide (request P7) the same fuses burn, 59 ones are withheld too, and 60 are told as all ones; a narrow word as 32 of them
 abbrev on-older : (stuck : ℕ) → Command → Outcome Answer State
-on-older stuck command = runs (image 2 12 60 8 [] (entry 0 6 0 15 ++ entry 6 6 1 9)) (0 ∷ stuck ∷ replicate 5 0 ++ (stuck ∷ replicate 4 0)) command (state cells no-key)
+on-older stuck command =
+    runs (image 2 12 60 8 [] (entry 0 6 0 15 ++ entry 6 6 1 9)) (0 ∷ stuck ∷ replicate 5 0 ++ (stuck ∷ replicate 4 0)) command (state cells no-key)
 
 older-60 : on-older 0x0F (Zeroize 0) ≡ outcome (Word 0xFFFF_FFFF_FFFF_FFFF) (state (0xFFFF_FFFF ∷ 0xFFFF_FFF0 ∷ replicate 10 0) no-key)
 unfolding runs

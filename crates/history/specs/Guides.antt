@@ -1,5 +1,5 @@
--- Request P7: "only the answered word depends on the flag". Here is the claim of two maps that differ in flag 8 alone, over every list of
--- calls of every entry point; the theorem is in `GuidesProof`. Assumes nothing.
+-- Request P7: "only the answered word depends on the flag". Here is the claim of two maps that differ in flag 8 alone, of every call that
+-- changes anything, over every list of them, and of the states; the theorem is in `GuidesProof`. Assumes nothing.
 use Prim.Native.Nat.{ℕ}
 use mathlib.Core.Path.{_≡_}
 use mathlib.Core.Bool.{Bool, true, false}
@@ -8,9 +8,10 @@ use Rattle.context.specs.State.{State}
 use Rattle.direct.specs.declared.Command.the-variants.{Read, Write, Zeroize}
 use Rattle.direct.specs.declared.Answer.{Answer}
 use Rattle.direct.specs.declared.Answer.the-variants.{Word as Shown, Done, Withheld, Refused}
+use Rattle.drive.specs.Drive.{surveyAt, activeSlot}
 use Rattle.mailbox.specs.Mailbox.{Lent, mailboxOf}
-use Rattle.history.specs.Calls.{Call, Direct, Erase, EraseCut, Mailbox, TakeReply, MakeTable, Restart, Told, Answering, Erasing, Replying, Taking, Making, Silent}
-use Rattle.history.specs.Calls.{told, after, afterAll}
+use Rattle.history.specs.Calls.{Call, Direct, Erase, EraseCut, Mailbox, TakeReply, MakeTable, Restart, told, after, afterAll}
+use Rattle.history.specs.Calls.{Told, Answering, Erasing, Replying, Taking, Making, Silent}
 
 -- an answer with its word left out
 abbrev pub wordless : Answer → Answer
@@ -49,3 +50,6 @@ pub record OnlyTheWord (image other marks : List ℕ) : Type 0 where
   -- cells and context, after a call and after every list of calls
   pub same-after : (call : Call) (s : State) → after other marks call s ≡ after image marks call s
   pub same-after-all : (calls : List Call) (s : State) → afterAll other marks calls s ≡ afterAll image marks calls s
+  -- the state and the short pairs of each partition, and the active slot
+  pub same-survey : (cells : List ℕ) (i : ℕ) → surveyAt other cells i ≡ surveyAt image cells i
+  pub same-active : (cells : List ℕ) → activeSlot other cells ≡ activeSlot image cells

@@ -4,7 +4,6 @@ use mathlib.Core.Path.{_≡_, refl, sym, ap, ap₂, _∙_}
 use mathlib.Core.Bool.{Bool, true, false, cond, _&&_, false≢true}
 use mathlib.Core.List.{List, [], _∷_, _++_}
 use lib.ListN.{length}
-use Rattle.laws.specs.Tests.{and}
 use Rattle.laws.specs.Below.{firstBelow, first-same}
 use Rattle.laws.specs.Refusals.{firstOf, first-both}
 use Rattle.context.specs.State.{State, Outcome, outcome, refusing, telling, onCells}
@@ -27,7 +26,7 @@ use Rattle.codec.specs.declared.Command.{Command as Code}
 use Rattle.codec.specs.declared.Command.the-variants.{Clkc, Klod, Kunl, Fers, Fsta, Ehdl, Rhpk, Unknown}
 use Rattle.codec.specs.Fields.{commandOf}
 use Rattle.codec.specs.Request.{requestTests}
-use Rattle.mailbox.specs.Mailbox.{refused, fersOf, partitionIn, accepted, commandTests, engineTests, handleTests, ownTests, lentBad, laterTests, doneOf}
+use Rattle.mailbox.specs.Mailbox.{refused, fersOf, partitionIn, accepted, commandTests, engineTests, handleTests, lentBad, doneOf}
 use Rattle.mailbox.specs.Mailbox.{Lent, lent, writtenOut, mailboxOf}
 use Rattle.direct.specs.declared.Command.{Command}
 use Rattle.direct.specs.declared.Command.the-variants.{Read, Write, Zeroize}
@@ -46,7 +45,7 @@ first-by : {A : Type 0} (refuse : ℕ → A) {tests tests′ : List (Bool × ℕ
     → firstOf refuse tests′ accepted′ ≡ firstOf refuse tests accepted
 first-by refuse p q = ap₂ (λ tests accepted. firstOf refuse tests accepted) p q
 
-module _ (image other : List ℕ) (d : Differ8 image other) (good : mapGood image ≡ true) (good′ : mapGood other ≡ true) where
+module _ (image other marks : List ℕ) (d : Differ8 image other) (good : mapGood image ≡ true) (good′ : mapGood other ≡ true) where
   header : headerOf other ≡ headerOf image
   header = same-header image other d (map-header image good .offset-least)
 
@@ -62,9 +61,9 @@ module _ (image other : List ℕ) (d : Differ8 image other) (good : mapGood imag
   part : (l : List ℕ) (i : ℕ) → cellsOf other l i ≡ cellsOf image l i
   part l i = rw (entry i .first, entry i .n)
 
-  drive-tests : (cells marks : List ℕ) → driveTests other cells marks ≡ driveTests image cells marks
+  drive-tests : (cells : List ℕ) → driveTests other cells marks ≡ driveTests image cells marks
   unfolding wholeArrays
-  drive-tests cells marks = rw (good, good′, ap (λ (h : Header). h .cells) header)
+  drive-tests cells = rw (good, good′, ap (λ (h : Header). h .cells) header)
 
   in-use : (i : ℕ) (context : List ℕ) → slotInUse other i context ≡ slotInUse image i context
   in-use i context = rw (same-slot (entry i))
@@ -83,9 +82,13 @@ module _ (image other : List ℕ) (d : Differ8 image other) (good : mapGood imag
       rw (place cell, count, entry i .first, entry i .n, entry i .kind, same-zeroizable (entry i))
 
   -- the active slot
+  survey : (cells : List ℕ) (i : ℕ) → surveyAt other cells i ≡ surveyAt image cells i
+  unfolding surveyAt
+  survey cells i = rw (part cells i, bound, same-zeroizable (entry i))
+
   slot-same : (cells : List ℕ) (i : ℕ) → slotAt other cells i ≡ slotAt image cells i
-  unfolding slotAt surveyAt
-  slot-same cells i = rw (part cells i, bound, same-zeroizable (entry i), same-slot (entry i))
+  unfolding slotAt
+  slot-same cells i = rw (survey cells i, same-slot (entry i))
 
   active : (cells : List ℕ) → activeSlot other cells ≡ activeSlot image cells
   unfolding activeSlot openSlot
@@ -107,22 +110,22 @@ module _ (image other : List ℕ) (d : Differ8 image other) (good : mapGood imag
   word-tests (Word i role wide) (Write cell value) s = rw (entry i .kind, marked-same (s .cells) i, same-slot (entry i))
   word-tests (Word i role wide) (Zeroize cell) s = rw (same-zeroizable (entry i), same-slot (entry i))
 
-  direct-tests : (found : Lookup) (command : Command) (marks : List ℕ) (s : State) → directTests found command other marks s ≡ directTests found command image marks s
-  direct-tests found command marks s = ap₂ _++_ (drive-tests (s .cells) marks) (word-tests found command s)
+  direct-tests : (found : Lookup) (command : Command) (s : State) → directTests found command other marks s ≡ directTests found command image marks s
+  direct-tests found command s = ap₂ _++_ (drive-tests (s .cells)) (word-tests found command s)
 
-  carried-same : (found : Lookup) (command : Command) (marks : List ℕ) (s : State) → zeroizes (Direct command) ≡ false
+  carried-same : (found : Lookup) (command : Command) (s : State) → zeroizes (Direct command) ≡ false
       → carriedOut found command other marks s ≡ carriedOut found command image marks s
   unfolding carriedOut
-  carried-same NoWord command marks s o = refl
-  carried-same (Word i role wide) (Read cell) marks s o = refl
-  carried-same (Word i role wide) (Write cell value) marks s o = rw (same-secret (entry i))
-  carried-same (Word i role wide) (Zeroize cell) marks s o = absurd (false≢true (sym o))
+  carried-same NoWord command s o = refl
+  carried-same (Word i role wide) (Read cell) s o = refl
+  carried-same (Word i role wide) (Write cell value) s o = rw (same-secret (entry i))
+  carried-same (Word i role wide) (Zeroize cell) s o = absurd (false≢true (sym o))
 
-  direct-same : (marks : List ℕ) (command : Command) → zeroizes (Direct command) ≡ false → (s : State) → directOf other marks command s ≡ directOf image marks command s
-  direct-same marks command o s =
+  direct-same : (command : Command) → zeroizes (Direct command) ≡ false → (s : State) → directOf other marks command s ≡ directOf image marks command s
+  direct-same command o s =
       let found = wordAt image (cellOf command) in
       direct-at other marks command s (word (cellOf command))
-      ∙ first-by (refusing Refused s) (direct-tests found command marks s) (carried-same found command marks s o)
+      ∙ first-by (refusing Refused s) (direct-tests found command s) (carried-same found command s o)
       ∙ sym (direct-at image marks command s refl)
 
   -- of ZEROIZE all but the word
@@ -139,44 +142,47 @@ module _ (image other : List ℕ) (d : Differ8 image other) (good : mapGood imag
       let shown : Entry → ℕ = λ x. cond (olderGuide x) (onesAt wide) word in
       rw (same-secret (entry i)) (shown-alike (secret (entryOf image i) && short bound word) (shown (entryOf other i)) (shown (entryOf image i)))
 
-  carried-alike : (found : Lookup) (cell : ℕ) (marks : List ℕ) (s : State) → Alike (carriedOut found (Zeroize cell) other marks s) (carriedOut found (Zeroize cell) image marks s)
+  carried-alike : (found : Lookup) (cell : ℕ) (s : State)
+      → Alike (carriedOut found (Zeroize cell) other marks s) (carriedOut found (Zeroize cell) image marks s)
   unfolding carriedOut
-  carried-alike NoWord cell marks s = (refl, refl)
-  carried-alike (Word i role wide) cell marks s = (rw bound (answer-alike i cell wide (headerOf image .bound) (wordOf wide cell (cellsAfter (Zeroize cell) wide marks (s .cells)))), refl)
+  carried-alike NoWord cell s = (refl, refl)
+  carried-alike (Word i role wide) cell s =
+      let stands = wordOf wide cell (cellsAfter (Zeroize cell) wide marks (s .cells)) in
+      (rw bound (answer-alike i cell wide (headerOf image .bound) stands), refl)
 
-  zeroize-alike : (marks : List ℕ) (cell : ℕ) (s : State) → Alike (directOf other marks (Zeroize cell) s) (directOf image marks (Zeroize cell) s)
-  zeroize-alike marks cell s =
+  zeroize-alike : (cell : ℕ) (s : State) → Alike (directOf other marks (Zeroize cell) s) (directOf image marks (Zeroize cell) s)
+  zeroize-alike cell s =
       let found = wordAt image cell in
       let refuse = refusing Refused s in
       let there = carriedOut found (Zeroize cell) other marks s in
-      rw (direct-at other marks (Zeroize cell) s (word cell) ∙ first-by refuse (direct-tests found (Zeroize cell) marks s) refl, direct-at image marks (Zeroize cell) s refl)
+      let at-other = direct-at other marks (Zeroize cell) s (word cell) ∙ first-by refuse (direct-tests found (Zeroize cell) s) refl in
+      rw (at-other, direct-at image marks (Zeroize cell) s refl)
       (first-both Alike refuse refuse (directTests found (Zeroize cell) image marks s) there (carriedOut found (Zeroize cell) image marks s)
-      (λ n _. (refl, refl)) (λ none. carried-alike found cell marks s))
+      (λ n _. (refl, refl)) (λ none. carried-alike found cell s))
 
   -- ---- erasures
 
-  ran : (cells marks : List ℕ) (i k mask : ℕ) → runOn other cells marks i k mask ≡ runOn image cells marks i k mask
+  ran : (cells : List ℕ) (i k mask : ℕ) → runOn other cells marks i k mask ≡ runOn image cells marks i k mask
   unfolding runOn
-  ran cells marks i k mask = rw (entry i .first, entry i .n, entry i .kind)
+  ran cells i k mask = rw (entry i .first, entry i .n, entry i .kind)
 
   told-same : (end : End) (i : ℕ) (t : Tally) → answerBy end other i t ≡ answerBy end image i t
   told-same Whole i t = rw (entry i .first, entry i .n, bound)
   told-same Stopped i t = refl
   told-same CutEnd i t = refl
 
-  ran-same : (cells marks : List ℕ) (i k mask : ℕ) → ranOf other i (runOn other cells marks i k mask) ≡ ranOf image i (runOn image cells marks i k mask)
-  ran-same cells marks i k mask =
+  ran-same : (cells : List ℕ) (i k mask : ℕ) → ranOf other i (runOn other cells marks i k mask) ≡ ranOf image i (runOn image cells marks i k mask)
+  ran-same cells i k mask =
       let r = runOn image cells marks i k mask in
-      ap (ranOf other i) (ran cells marks i k mask) ∙ ap (λ (a : Erasure). outcome a (r .tally .cells)) (told-same (r .end) i (r .tally))
+      ap (ranOf other i) (ran cells i k mask) ∙ ap (λ (a : Erasure). outcome a (r .tally .cells)) (told-same (r .end) i (r .tally))
 
   partition-tests : (i : ℕ) (context : List ℕ) → partitionTests other i context ≡ partitionTests image i context
   partition-tests i context = rw (count, same-zeroizable (entry i), same-slot (entry i))
 
-  erase-same : (marks : List ℕ) (i k mask : ℕ) (s : State) → eraseOf other marks i k mask s ≡ eraseOf image marks i k mask s
+  erase-same : (i k mask : ℕ) (s : State) → eraseOf other marks i k mask s ≡ eraseOf image marks i k mask s
   unfolding eraseOf
-  erase-same marks i k mask s =
-      first-by (refusing unburned s) (ap₂ _++_ (drive-tests (s .cells) marks) (partition-tests i (s .context)))
-      (ap (onCells s) (ran-same (s .cells) marks i k mask))
+  erase-same i k mask s =
+      first-by (refusing unburned s) (ap₂ _++_ (drive-tests (s .cells)) (partition-tests i (s .context))) (ap (onCells s) (ran-same (s .cells) i k mask))
 
   -- ---- the mailbox
 
@@ -190,36 +196,35 @@ module _ (image other : List ℕ) (d : Differ8 image other) (good : mapGood imag
   command-tests Rhpk request s = refl
   command-tests Unknown request s = refl
 
-  accepted-same : (command : Code) (marks request : List ℕ) (s : State) → accepted command other marks request s ≡ accepted command image marks request s
-  accepted-same Clkc marks request s = refl
-  accepted-same Klod marks request s = refl
-  accepted-same Kunl marks request s = refl
-  accepted-same Fers marks request s = ap (telling fersOf) (ran-same (s .cells) marks (partitionIn request) never 0)
-  accepted-same Fsta marks request s = rw (active (s .cells))
-  accepted-same Ehdl marks request s = refl
-  accepted-same Rhpk marks request s = refl
-  accepted-same Unknown marks request s = refl
+  accepted-same : (command : Code) (request : List ℕ) (s : State) → accepted command other marks request s ≡ accepted command image marks request s
+  accepted-same Clkc request s = refl
+  accepted-same Klod request s = refl
+  accepted-same Kunl request s = refl
+  accepted-same Fers request s = ap (telling fersOf) (ran-same (s .cells) (partitionIn request) never 0)
+  accepted-same Fsta request s = rw (active (s .cells))
+  accepted-same Ehdl request s = refl
+  accepted-same Rhpk request s = refl
+  accepted-same Unknown request s = refl
 
-  done-same : (marks : List ℕ) (code : ℕ) (request : List ℕ) (room block : ℕ) (s : State) → doneOf other marks code request room block s ≡ doneOf image marks code request room block s
+  done-same : (code : ℕ) (request : List ℕ) (room block : ℕ) (s : State)
+      → doneOf other marks code request room block s ≡ doneOf image marks code request room block s
   unfolding doneOf
-  done-same marks code request room block s =
+  done-same code request room block s =
       let command = commandOf code in
-      let own : ownTests command other request s ≡ ownTests command image request s =
-      ap (λ (tests : List (Bool × ℕ)). tests ++ (engineTests command (s .context) ++ handleTests command (s .context) request)) (command-tests command request s) in
-      let later : laterTests command other code request (lentBad room block (s .context)) s ≡ laterTests command image code request (lentBad room block (s .context)) s =
-      ap (λ (tests : List (Bool × ℕ)). (lentBad room block (s .context), 2) ∷ (requestTests command code request ++ tests)) own in
-      first-by (refusing refused (s .cells)) (ap₂ _++_ (drive-tests (s .cells) marks) later) (accepted-same command marks request s)
+      let rest = engineTests command (s .context) ++ handleTests command (s .context) request in
+      let later = ap (λ (own : List (Bool × ℕ)). (lentBad room block (s .context), 2) ∷ (requestTests command code request ++ (own ++ rest)))
+      (command-tests command request s) in
+      first-by (refusing refused (s .cells)) (ap₂ _++_ (drive-tests (s .cells)) later) (accepted-same command request s)
 
--- ---- so two good maps that differ in flag 8 alone
+  -- ---- every call
 
-module _ (image other marks : List ℕ) (d : Differ8 image other) (good : mapGood image ≡ true) (good′ : mapGood other ≡ true) where
   mailbox-same : (code : ℕ) (request : List ℕ) (l : Lent) → mailboxOf other marks code request l ≡ mailboxOf image marks code request l
-  mailbox-same code request l = ap (writtenOut request l) (done-same image other d good good′ marks code request (length (l .response)) (length (l .block)) (l .state))
+  mailbox-same code request l = ap (writtenOut request l) (done-same code request (length (l .response)) (length (l .block)) (l .state))
 
   call-same : (call : Call) → zeroizes call ≡ false → (s : State) → outcomeOf other marks call s ≡ outcomeOf image marks call s
-  call-same (Direct command) o s = ap (telling Answering) (direct-same image other d good good′ marks command o s)
-  call-same (Erase i) o s = ap (telling Erasing) (erase-same image other d good good′ marks i never 0 s)
-  call-same (EraseCut i k mask) o s = ap (λ (e : Outcome Erasure State). telling Erasing (afterCut e)) (erase-same image other d good good′ marks i k mask s)
+  call-same (Direct command) o s = ap (telling Answering) (direct-same command o s)
+  call-same (Erase i) o s = ap (telling Erasing) (erase-same i never 0 s)
+  call-same (EraseCut i k mask) o s = ap (λ (e : Outcome Erasure State). telling Erasing (afterCut e)) (erase-same i k mask s)
   call-same (Mailbox code request response block) o s = ap replying (mailbox-same code request (lent s response block))
   call-same (TakeReply reply) o s = refl
   call-same (MakeTable handles algorithms) o s = refl
@@ -235,7 +240,7 @@ module _ (image other marks : List ℕ) (d : Differ8 image other) (good : mapGoo
   call-alike : (call : Call) (s : State) → AlikeTold (outcomeOf other marks call s) (outcomeOf image marks call s)
   call-alike (Direct (Read cell)) s = same-alike (call-same (Direct (Read cell)) refl s)
   call-alike (Direct (Write cell value)) s = same-alike (call-same (Direct (Write cell value)) refl s)
-  call-alike (Direct (Zeroize cell)) s = let z = zeroize-alike image other d good good′ marks cell s in (ap Answering (z .0), z .1)
+  call-alike (Direct (Zeroize cell)) s = let z = zeroize-alike cell s in (ap Answering (z .0), z .1)
   call-alike (Erase i) s = same-alike (call-same (Erase i) refl s)
   call-alike (EraseCut i k mask) s = same-alike (call-same (EraseCut i k mask) refl s)
   call-alike (Mailbox code request response block) s = same-alike (call-same (Mailbox code request response block) refl s)
@@ -250,6 +255,8 @@ module _ (image other marks : List ℕ) (d : Differ8 image other) (good : mapGoo
     same-but-word = λ call s. call-alike call s .0;
     same-after = λ call s. call-alike call s .1;
     same-after-all = all;
+    same-survey = survey;
+    same-active = active;
   }
     where
       all : (calls : List Call) (s : State) → afterAll other marks calls s ≡ afterAll image marks calls s

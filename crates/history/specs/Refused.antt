@@ -58,7 +58,8 @@ Unchanged image marks call s = 1 ≤ refusal (told image marks call s) → after
 -- a direct command that is carried out is not refused
 carried-answers : (command : Command) (x : Entry) (wide : Bool) (bound word : ℕ) → refusal (Answering (answerOf command x wide bound word)) ≡ 0
 carried-answers (Read cell) x wide bound word = refl
-carried-answers (Write cell value) x wide bound word = cond-keeps (λ (a : DirectAnswer). refusal (Answering a) ≡ 0) (secret x) Burned (Word word) (λ _. refl) (λ _. refl)
+carried-answers (Write cell value) x wide bound word =
+    cond-keeps (λ (a : DirectAnswer). refusal (Answering a) ≡ 0) (secret x) Burned (Word word) (λ _. refl) (λ _. refl)
 carried-answers (Zeroize cell) x wide bound word =
     cond-keeps (λ (a : DirectAnswer). refusal (Answering a) ≡ 0) (secret x && short bound word) Withheld (Word _) (λ _. refl) (λ _. refl)
 

@@ -120,7 +120,7 @@ read-hides image marks s cell hidden =
 
 -- ---- WRITE and ZEROIZE
 
--- a pair of a secret partition that is shown has few zeros as it stands, and under the older guide, which shows all ones, none
+-- a pair of a secret partition that is shown has few zeros as it stands, and on the older guide, which shows all ones, none
 shown-least : (x : Entry) (wide : Bool) (bound word : ℕ) → secret x ≡ true → wide ≡ true → (answer : Answer) → answer ≡ answerOf (Zeroize 0) x wide bound word
     → shows answer ≡ true → zerosOf (shownWord answer) ≤ 64 - bound
 shown-least x wide bound word s w answer e y =
@@ -148,7 +148,7 @@ module _ (image marks : List ℕ) (s : State) (cell : ℕ) (hidden : Secret imag
       (λ n _. refl)
       (λ h. rw (hidden .is-secret)))
 
-  -- "A value given in answer to ZEROIZE from a secret partition thus has at most 64 - B zeros", under either guide
+  -- "A value given in answer to ZEROIZE from a secret partition thus has at most 64 - B zeros", on either guide
   pub zeroize-shows : shows (directOf image marks (Zeroize cell) s .told) ≡ true → zerosOf (shownWord (directOf image marks (Zeroize cell) s .told)) ≤ 64 - headerOf image .bound
   unfolding found carriedOut
   zeroize-shows =
@@ -158,8 +158,9 @@ module _ (image marks : List ℕ) (s : State) (cell : ℕ) (hidden : Secret imag
       (λ n _ y. absurd (false≢true y))
       (λ h y.
       let good : mapGood image ≡ true = not-false _ (h 0) in
-      let wide = secret-wide image good (word-tells image good cell (hidden .partition) (hidden .role) (hidden .wide) (sym (hidden .starts))) (hidden .is-secret) in
-      shown-least (entryOf image (hidden .partition)) (hidden .wide) (headerOf image .bound) _ (hidden .is-secret) wide _ refl y))
+      let lies = word-tells image good cell (hidden .partition) (hidden .role) (hidden .wide) (sym (hidden .starts)) in
+      let pair = secret-wide image good lies (hidden .is-secret) in
+      shown-least (entryOf image (hidden .partition)) (hidden .wide) (headerOf image .bound) _ (hidden .is-secret) pair _ refl y))
 
 -- ---- loads
 

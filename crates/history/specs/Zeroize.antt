@@ -1,19 +1,20 @@
--- Request P7: "State once, over both guides, what the fuses hold afterwards" of a ZEROIZE, and that "Withholding stays". The flag occurs in
--- neither claim; the theorem is `zeroize-leaves`. Assumes nothing.
+-- Request P7: "State once, over both guides, what the fuses hold afterwards" of a ZEROIZE, and that "Withholding stays": in that claim the
+-- flag does not occur; its theorem is `zeroize-leaves`. Which word is answered, by the flag, is `zeroize-answers`. Assumes nothing.
 use Prim.Native.Nat.{ℕ, _+_, _≤_, _<_}
 use mathlib.Core.Path.{_≡_, refl, sym, subst}
-use mathlib.Core.Logic.{_⊎_}
-use mathlib.Core.Bool.{Bool, true, false, cond}
+use mathlib.Core.Logic.{_⊎_, inl, inr}
+use mathlib.Core.Bool.{Bool, true, false, cond, _&&_}
 use mathlib.Core.List.{List}
 use native.Mathlib.Omega.{arith}
 use lib.ListN.{length, getD}
 use lib.Bits.{bitOr}
 use borrow.Author.Tests.{not-false, lt-ltb, ltb-true}
-use Rattle.laws.specs.Tests.{and}
-use Rattle.laws.specs.Refusals.{Applies, not-applies, first-elim}
-use Rattle.context.specs.State.{State, Outcome, refusing}
-use Rattle.map.specs.Map.{headerOf, entryOf, secret, mapGood}
-use Rattle.fuse.specs.Fuse.{free, onesOf, cellsIn, allOnes}
+use Rattle.laws.specs.Tests.{and, cond-keeps}
+use Rattle.laws.specs.Refusals.{Applies, lacks, not-applies, first-elim}
+use Rattle.context.specs.State.{State, withCells, Outcome, refusing}
+use Rattle.map.specs.declared.Entry.{Entry}
+use Rattle.map.specs.Map.{headerOf, entryOf, secret, olderGuide, mapGood}
+use Rattle.fuse.specs.Fuse.{free, onesOf, short, cellsIn, allOnes}
 use Rattle.burns.specs.Cells.{grown-burn, burn-beside, burn-fills}
 use Rattle.word.specs.declared.Role.{Role}
 use Rattle.word.specs.declared.Lookup.{Lookup}
@@ -24,7 +25,7 @@ use Rattle.erasure.specs.Cuts.{whole-by}
 use Rattle.direct.specs.declared.Command.the-variants.{Zeroize}
 use Rattle.direct.specs.declared.Answer.{Answer}
 use Rattle.direct.specs.declared.Answer.the-variants.{Word as Shown, Withheld, Refused}
-use Rattle.direct.specs.Direct.{wordOf, directTests, cellsAfter, carriedOut, directBy}
+use Rattle.direct.specs.Direct.{wordOf, directTests, cellsAfter, onesAt, carriedOut, directBy, directOf}
 use Rattle.direct.specs.Laws.{direct-at}
 use Rattle.history.specs.Calls.{Direct, Told, Answering, told, refusal, after}
 use Rattle.history.specs.Refused.{refused-unchanged}
@@ -51,7 +52,16 @@ pub record ZeroizeLeaves (image marks : List ℕ) (cell : ℕ) (s : State) : Typ
   pub carried : refusal (told image marks (Direct (Zeroize cell)) s) ≡ 0
       → Zeroized image marks cell s (after image marks (Direct (Zeroize cell)) s) (told image marks (Direct (Zeroize cell)) s)
 
--- ---- the theorem
+-- the word that is answered where none is withheld: on the older guide "all ones at the word's width, stuck fuses or not", else the word as
+-- it stands
+abbrev pub wordBy : Entry → (wide : Bool) (cell : ℕ) → State → ℕ
+wordBy x wide cell now = cond (olderGuide x) (onesAt wide) (wordOf wide cell (now .cells))
+
+-- ---- the theorems
+
+-- no refusal has the number 0
+numbered : (tests : List (Bool × ℕ)) → lacks 0 tests ≡ true → {n : ℕ} → Applies n tests → n ≡ 0 → ⊥
+numbered tests g a e = not-applies 0 tests g (subst (λ (m : ℕ). Applies m tests) e a)
 
 -- it is withheld by its test alone
 withheld-by : (hides : Bool) (shown : ℕ) → Answering (cond hides Withheld (Shown shown)) ≡ Answering Withheld → hides ≡ true
@@ -67,11 +77,11 @@ module _ (image marks : List ℕ) (cell : ℕ) (s : State) where
   carried-by NoWord e =
       let tests = directTests NoWord (Zeroize cell) image marks s in
       first-elim Carried (refusing Refused s) tests (carriedOut NoWord (Zeroize cell) image marks s)
-      (λ n a r. absurd (not-applies 0 tests refl (subst (λ (m : ℕ). Applies m tests) r a))) (λ none r. absurd (omega arith))
+      (λ n a r. absurd (numbered tests refl a r)) (λ none r. absurd (omega arith))
   carried-by (Word i role wide) e =
       let tests = directTests (Word i role wide) (Zeroize cell) image marks s in
       first-elim Carried (refusing Refused s) tests (carriedOut (Word i role wide) (Zeroize cell) image marks s)
-      (λ n a r. absurd (not-applies 0 tests refl (subst (λ (m : ℕ). Applies m tests) r a)))
+      (λ n a r. absurd (numbered tests refl a r))
       (λ none _.
       let good : mapGood image ≡ true = not-false _ (none 0) in
       let found = word-tells image good cell i role wide (sym e) in
@@ -88,6 +98,23 @@ module _ (image marks : List ℕ) (cell : ℕ) (s : State) where
         hidden = λ w. let both = and (secret (entryOf image i)) _ (withheld-by _ _ w) in (both .0, ltb-true _ _ (both .1));
         hides = λ h few. rw (h, lt-ltb _ _ few);
       })
+
+  -- of the word of partition i that starts at the cell
+  module _ {i : ℕ} {role : Role} {wide : Bool} (starts : wordAt image cell ≡ Word i role wide) where
+    abbrev Answers : Outcome Answer State → Type 0
+    Answers o = refusal (Answering (o .told)) ≡ 0 → (o .told ≡ Withheld) ⊎ (o .told ≡ Shown (wordBy (entryOf image i) wide cell (o .after)))
+
+    pub zeroize-answers : Answers (directOf image marks (Zeroize cell) s)
+    unfolding carriedOut
+    zeroize-answers =
+        let tests = directTests (Word i role wide) (Zeroize cell) image marks s in
+        let now = withCells (cellsAfter (Zeroize cell) wide marks (s .cells)) s in
+        let shown = wordBy (entryOf image i) wide cell now in
+        subst Answers (sym (direct-at image marks (Zeroize cell) s starts))
+        (first-elim Answers (refusing Refused s) tests (carriedOut (Word i role wide) (Zeroize cell) image marks s)
+        (λ n a r. absurd (numbered tests refl a r))
+        (λ none _. cond-keeps (λ (a : Answer). (a ≡ Withheld) ⊎ (a ≡ Shown shown))
+        (secret (entryOf image i) && short (headerOf image .bound) (wordOf wide cell (now .cells))) Withheld (Shown shown) (λ _. inl refl) (λ _. inr refl)))
 
   pub zeroize-leaves : ZeroizeLeaves image marks cell s
   zeroize-leaves = record {

@@ -1,21 +1,20 @@
--- Request P7, "Boards on the older guide", of a map: two images that differ in flag 8 alone, what they have in common, and that of a good
--- map's flags 8 is refused "exactly on a partition that is not zeroizable". Assumes nothing.
-use Prim.Native.Nat.{ℕ, zero, suc, _+_, _-_, _*_, _/_, _%_, _≤_, _<_}
+-- Request P7, of maps: what two images have in common that differ in flag 8 alone, and that the flag is refused "exactly on a partition
+-- that is not zeroizable" (`eight-exactly`). Assumes nothing.
+use Prim.Native.Nat.{ℕ, _+_, _-_, _*_, _/_, _%_, _≤_, _<_}
 use mathlib.Core.Path.{_≡_, refl, sym, ap, subst, _∙_}
-use mathlib.Core.Logic.{_⊎_, ⊎-elim}
-use mathlib.Core.Bool.{Bool, true, false, not, _||_, false≢true}
+use mathlib.Core.Logic.{⊎-elim}
+use mathlib.Core.Bool.{true, false, not, _||_, false≢true}
 use mathlib.Core.List.{List}
 use native.Mathlib.Omega.{arith}
-use native.Mathlib.Numerals.{add-one}
 use lib.ListN.{length}
-use lib.Dec.{eqb, leb}
+use lib.Dec.{eqb}
 use borrow.Author.Tests.{le-leb, not-false}
 use Rattle.laws.specs.Tests.{decided, not-yes, implied, neither, lt-or-le}
 use Rattle.laws.specs.Below.{allBelow, all-at, all-holds, fails-at}
 use Rattle.endian.specs.Endian.{byteAt, u16At}
 use Rattle.map.specs.declared.Header.{Header}
 use Rattle.map.specs.declared.Entry.{Entry}
-use Rattle.map.specs.Map.{headerOf, entryPlace, entryAt, entryOf, endOf, software, zeroizable, secret, slot, olderGuide}
+use Rattle.map.specs.Map.{headerOf, entryPlace, entryAt, entryOf, zeroizable, secret, slot, olderGuide}
 use Rattle.map.specs.Map.{fillerGood, entryGood, endBefore, placeGood, mapGood}
 use Rattle.map.specs.Laws.{bad-filler, good-so-far, map-parts, map-header, map-entry}
 
@@ -143,7 +142,8 @@ module _ (image other : List ℕ) (d : Differ8 image other) (low : 8 ≤ headerO
       → placeGood other i ≡ placeGood image i
   unfolding placeGood
   place-good i small e =
-      rw (before-same i, spare-same i, ap (λ (h : Header). h .cells) same-header) (entry-same (same-entry i) (endBefore image i) (headerOf image .cells) (u16At image (entryPlace image i + 6)) small e)
+      rw (before-same i, spare-same i, ap (λ (h : Header). h .cells) same-header)
+      (entry-same (same-entry i) (endBefore image i) (headerOf image .cells) (u16At image (entryPlace image i + 6)) small e)
 
 -- ---- flag 8 is refused exactly on a partition that is not zeroizable
 
@@ -179,8 +179,12 @@ module _ (image other : List ℕ) (d : Differ8 image other) (good : mapGood imag
       place-good image other d low i (r .flags-known) (e ∙ sym right) ∙ all-at (placeGood image) _ (map-parts image good .1) i l
 
   pub eight-exactly : (mapGood other ≡ false → Misplaced8 other) × (Misplaced8 other → mapGood other ≡ false)
-  eight-exactly = (found, λ m. not-yes (mapGood other) (λ g. false≢true (sym (m .not-zeroizable) ∙ map-entry other g (m .partition) (m .within) .older-zeroizable (m .older))))
+  eight-exactly = (found, refused)
     where
+      refused : Misplaced8 other → mapGood other ≡ false
+      refused m =
+          not-yes (mapGood other) (λ g. false≢true (sym (m .not-zeroizable) ∙ map-entry other g (m .partition) (m .within) .older-zeroizable (m .older)))
+
       found : mapGood other ≡ false → Misplaced8 other
       found e =
           let at = fails-at (placeGood other) (headerOf image .partitions) (sym by-places ∙ e) in

@@ -47,7 +47,7 @@ broken =
     ∷ one (entry 0 6 3 0) ∷ one (entry 0 6 0 16)
     -- life cycle zeroizable, secret in kind 1, slot without secret, slot without zeroizable
     ∷ one (entry 0 6 2 1) ∷ one (entry 0 6 1 2) ∷ one (entry 0 6 0 5) ∷ one (entry 0 6 0 6)
-    -- request P7, flag 8 where nothing is zeroizable: alone in each kind, and with secret; in life cycle that is zeroizable, which is none
+    -- request P7, flag 8 where nothing is zeroizable: alone in each kind, and with secret; with 1 in life cycle, which is never zeroizable
     ∷ one (entry 0 6 0 8) ∷ one (entry 0 6 1 8) ∷ one (entry 0 6 2 8) ∷ one (entry 0 6 0 10) ∷ one (entry 0 6 2 9)
     -- each of the two zero bytes
     ∷ one (bytes2 0 ++ bytes2 6 ++ (0 ∷ 7 ∷ 1 ∷ 0 ∷ [])) ∷ one (bytes2 0 ++ bytes2 6 ++ (0 ∷ 7 ∷ 0 ∷ 1 ∷ []))

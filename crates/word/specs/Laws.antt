@@ -199,7 +199,8 @@ word-tells s g cell i role wide q =
     (decided (ltb k (headerOf s .partitions)))
 
 -- "Secret needs kind 0": every word of a secret partition is a pair
-pub secret-wide : (s : List ℕ) → mapGood s ≡ true → {cell i : ℕ} {role : Role} {wide : Bool} → Found s cell i role wide → secret (entryOf s i) ≡ true → wide ≡ true
+pub secret-wide : (s : List ℕ) → mapGood s ≡ true → {cell i : ℕ} {role : Role} {wide : Bool} → Found s cell i role wide
+    → secret (entryOf s i) ≡ true → wide ≡ true
 secret-wide s g {cell} {i} {role} {wide} f is-secret = by role (f .lies)
   where
     by : (role : Role) → Lies (entryOf s i) cell role wide → wide ≡ true

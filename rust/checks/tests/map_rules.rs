@@ -129,7 +129,11 @@ fn kinds() -> Vec<Case> {
         ("flag 8 alone", last(HARDWARE, OLDER_GUIDE), &[OlderGuideIsZeroizable]),
         ("flag 8 alone in kind 1", last(SOFTWARE, OLDER_GUIDE), &[OlderGuideIsZeroizable]),
         ("flag 8 alone in kind 2", last(LIFE_CYCLE, OLDER_GUIDE), &[OlderGuideIsZeroizable]),
-        ("flag 8 with 1 in kind 2", last(LIFE_CYCLE, 9), &[LifeCycleNotZeroizable]),
+        (
+            "flag 8 with 1 in kind 2",
+            last(LIFE_CYCLE, OLDER_GUIDE | ZEROIZABLE),
+            &[LifeCycleNotZeroizable],
+        ),
         ("flag 8 with 2", last(HARDWARE, OLDER_GUIDE | SECRET), &[OlderGuideIsZeroizable]),
         ("byte 6 of entry 0", with(|map| map.entries[0].zeros[0] = 1), &[EntryZeros]),
         ("byte 7 of entry 0", with(|map| map.entries[0].zeros[1] = 1), &[EntryZeros]),

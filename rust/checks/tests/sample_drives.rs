@@ -1,13 +1,13 @@
 //! The sample drives of `drives/`: what `status` and `why` print for each, or the mistake that
-//! `make_drive` finds in it, is what stands beside it; and what an erasure or a cut is said to
-//! have left is what the library leaves.
+//! `make_drive` finds in it, is what stands beside it; and what an erasure, a cut or ZEROIZE is said
+//! to have told or left is what the library tells and leaves.
 
 use checks::calls::commands::low_bits;
 use checks::programs::{both, map_made, printed, PROGRAMS};
 use checks::proved::Proved;
 use checks::runner::in_repository;
 use drives::Drive;
-use model::{Call, Cut, Erase, KeyBlock, Lent, Map};
+use model::{Answer, Call, Command, Cut, Erase, KeyBlock, Lent, Map, Said};
 use std::collections::BTreeSet;
 use std::fs;
 
@@ -123,13 +123,31 @@ fn table_has_a_row_for_each_sample_and_quotes_its_outputs() {
     assert_eq!(named, names(".txt"));
 }
 
-/// The cells that a call leaves, on a sample's map and marks.
-fn left(sample: &Drive, cells: &[u32], partition: u32, cut: Option<Cut>) -> Vec<u32> {
+/// A sample's map and marks with these cells, to be lent.
+fn lent(sample: &Drive, cells: &[u32]) -> Lent {
     let (image, marks) = (sample.image().to_vec(), sample.marks().to_vec());
     let drive = model::drive::Drive { image, cells: cells.to_vec(), marks };
-    let mut lent = Lent { drive, ..Lent::default() };
+    Lent { drive, ..Lent::default() }
+}
+
+/// The cells that a call leaves, on a sample's map and marks.
+fn left(sample: &Drive, cells: &[u32], partition: u32, cut: Option<Cut>) -> Vec<u32> {
+    let mut lent = lent(sample, cells);
     Proved.answer(&mut lent, &Call::Erase(Erase { partition, cut }));
     lent.drive.cells
+}
+
+/// "every ZEROIZE told all ones": of the slot's three pairs, and of partition 1's two single cells
+/// and two pairs.
+#[test]
+fn each_word_of_the_board_on_the_older_guide_is_told_as_all_ones() {
+    let sample = drive("older_guide");
+    let mut lent = lent(&sample, &[0; 12]);
+    for (cell, word) in [(0, 64), (2, 64), (4, 64), (6, 32), (7, 32), (8, 64), (10, 64)] {
+        let said = Proved.answer(&mut lent, &Call::Direct(Command::Zeroize { cell }));
+        assert_eq!(said, Said::Answer(Answer::Word(low_bits(word))), "cell {cell}");
+    }
+    assert_eq!(lent.drive.cells, sample.cells());
 }
 
 /// Every other sample is one that an erasure of the small drive's slot leaves, with the sample's

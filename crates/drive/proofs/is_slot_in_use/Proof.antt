@@ -22,8 +22,8 @@ returns c =
 returns-2 : tie.Need-returns-2
 returns-2 c =
     let asked = c .before in
-    c .if1 .left
-    ∙ (rw (c .if1 .left) at (in-use-is _ _ (asked .before .read-entry .ensures) (asked .before .before .before .args .context .now) (asked .is-slot .ensures) refl))
+    let context = asked .before .before .before .args .context .now in
+    c .if1 .left ∙ (rw (c .if1 .left) at (in-use-is _ _ (asked .before .read-entry .ensures) context (asked .is-slot .ensures) refl))
 
 pub is-slot-in-use-spec : {M : Type 1} → statement M
 is-slot-in-use-spec =

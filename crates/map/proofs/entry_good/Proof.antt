@@ -1,4 +1,5 @@
 -- `map::entry_good` meets its contract: the code is the chain of rules itself, with the flags named. Assumes nothing.
+use mathlib.Core.Path.{refl}
 use borrow.Author.Needs.{needs}
 use Rattle.laws.specs.Tests.{every}
 use Rattle.map.specs.Map.{entryGood}
@@ -25,7 +26,12 @@ cast-result c = search needs
 
 returns : tie.Need-returns
 unfolding entryGood every
-returns c = cc
+returns c =
+    let end = c .before .before .before .before .before .before .before .before .before in
+    let older = end .before in
+    let slot = older .before in
+    let secret = slot .before in
+    rw (secret .before .is-zeroizable .ensures, secret .is-secret .ensures, slot .is-slot .ensures, older .is-on-older-guide .ensures, end .end-of .ensures) refl
 
 pub entry-good-spec : {M : Type 1} → statement M
 entry-good-spec =

@@ -33,7 +33,7 @@ pub const ALL: &[Row<Sight>] = &[
     ("older guide: WRITE with unset fuses", |s| {
         s.came == "WRITE word" && s.older() && s.unset(Size::Pair)
     }),
-    ("1 for flag 8 alone", |s| {
+    ("1 for flag 8's rule alone", |s| {
         s.refused(1) && broken_rules(&s.before.drive.image) == [Rule::OlderGuideIsZeroizable]
     }),
     ("WRITE short of its value", |s| match (s.call, s.named) {
