@@ -517,7 +517,8 @@ sci_answer sci_write(const uint8_t *image, size_t image_bytes,
  * secret partition only if its ones reach the map's bound, otherwise withheld.
  * In a partition on the older guide (SCI_FLAG_OLDER_GUIDE) all ones at the word's
  * width, 0xFFFFFFFF or 0xFFFFFFFFFFFFFFFF, are answered in the word's place; what burns,
- * what is withheld, by the ones of the word as it stands, and what is refused is the same.
+ * what is withheld (by the ones of the word as it stands) and what is refused are the
+ * same.
  * Warning: on the older guide the answered word tells nothing of stuck fuses; in a
  * secret partition, only that the word's ones reach the bound. Whether a partition is
  * erased its state tells, by sci_states, and not this word.

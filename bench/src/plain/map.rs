@@ -24,7 +24,7 @@ pub struct Entry {
     pub length: u16,
     /// 0 hardware, 1 software, 2 life cycle.
     pub kind: u8,
-    /// 1 zeroizable, 2 secret, 4 HEK slot.
+    /// 1 zeroizable, 2 secret, 4 HEK slot, 8 older guide.
     pub flags: u8,
 }
 

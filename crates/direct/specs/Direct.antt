@@ -90,12 +90,17 @@ abbrev pub onesAt : (wide : Bool) → ℕ
 onesAt true = allOnes
 onesAt false = allSet
 
+-- the word that ZEROIZE tells where it withholds none: on the older guide (request P7) "the answer is all ones at the word's width, stuck
+-- fuses or not", else it is the word as it now stands
+abbrev pub toldWord : Entry → (wide : Bool) (word : ℕ) → ℕ
+toldWord x wide word = cond (olderGuide x) (onesAt wide) word
+
 -- what is answered of the word of a partition as it now stands. WRITE: "or done in a secret partition". ZEROIZE: "in a secret partition
--- only if its ones reach B, otherwise withheld"; on the older guide (request P7) "the answer is all ones .., stuck fuses or not. Withholding stays"
+-- only if its ones reach B, otherwise withheld"; request P7: "Withholding stays"
 abbrev pub answerOf : Command → Entry → (wide : Bool) (bound word : ℕ) → Answer
 answerOf (Read cell) x wide bound word = Shown word
 answerOf (Write cell value) x wide bound word = cond (secret x) Done (Shown word)
-answerOf (Zeroize cell) x wide bound word = cond (secret x && short bound word) Withheld (Shown (cond (olderGuide x) (onesAt wide) word))
+answerOf (Zeroize cell) x wide bound word = cond (secret x && short bound word) Withheld (Shown (toldWord x wide word))
 
 -- the answer is by the word as it now stands
 abbrev pub shownOf : Command → (image : List ℕ) (i : ℕ) (wide : Bool) → State → Outcome Answer State

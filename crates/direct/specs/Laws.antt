@@ -13,7 +13,7 @@ use Rattle.laws.specs.Refusals.{ascendFrom, GivenLowest, lowest-tells}
 use Rattle.context.specs.State.{State, withCells, Outcome, outcome, refusing}
 use Rattle.map.specs.declared.Entry.{Entry}
 use Rattle.map.specs.declared.Header.{Header}
-use Rattle.map.specs.Map.{headerOf, entryOf, lifeCycle, zeroizable, secret, olderGuide}
+use Rattle.map.specs.Map.{headerOf, entryOf, lifeCycle, zeroizable, secret}
 use Rattle.fuse.specs.Fuse.{pairOf, short, cellsIn}
 use Rattle.word.specs.declared.Role.{Role}
 use Rattle.word.specs.declared.Lookup.{Lookup}
@@ -30,7 +30,7 @@ use Rattle.direct.specs.declared.Found.{Found}
 use Rattle.direct.specs.declared.Found.the-variants.{Word as FoundWord, Refused as Barred}
 use Rattle.direct.specs.declared.Answer.{Answer}
 use Rattle.direct.specs.declared.Answer.the-variants.{Word as Shown, Withheld, Refused}
-use Rattle.direct.specs.Direct.{cellOf, wordOf, isData, forbidden, clears, wordTests, directTests, cellsAfter, onesAt, answerOf, shownOf, carriedOut}
+use Rattle.direct.specs.Direct.{cellOf, wordOf, isData, forbidden, clears, wordTests, directTests, cellsAfter, toldWord, answerOf, shownOf, carriedOut}
 use Rattle.direct.specs.Direct.{directBy, directOf, foundBy, foundOf}
 
 -- what is known of a word that was found: a drive that was judged, and a word that lies in it
@@ -73,14 +73,11 @@ module _ (cells : List ℕ) (wide : Bool) (cell value : ℕ) {word : ℕ} (e : w
 
 -- ZEROIZE's answer, by its test and by the word that is told
 module _ (x : Entry) (wide : Bool) (bound word : ℕ) {hides : Bool} (test : hides ≡ (secret x && short bound word)) where
-  abbrev told : ℕ
-  told = cond (olderGuide x) (onesAt wide) word
-
   pub zeroize-withheld : hides ≡ true → Withheld ≡ answerOf (Zeroize 0) x wide bound word
-  zeroize-withheld y = ap (λ (h : Bool). cond h Withheld (Shown told)) (sym y ∙ test)
+  zeroize-withheld y = ap (λ (h : Bool). cond h Withheld (Shown (toldWord x wide word))) (sym y ∙ test)
 
-  pub zeroize-told : hides ≡ false → {v : ℕ} → v ≡ told → Shown v ≡ answerOf (Zeroize 0) x wide bound word
-  zeroize-told n e = ap Shown e ∙ ap (λ (h : Bool). cond h Withheld (Shown told)) (sym n ∙ test)
+  pub zeroize-told : hides ≡ false → {told : ℕ} → told ≡ toldWord x wide word → Shown told ≡ answerOf (Zeroize 0) x wide bound word
+  zeroize-told n e = ap Shown e ∙ ap (λ (h : Bool). cond h Withheld (Shown (toldWord x wide word))) (sym n ∙ test)
 
 -- ---- a command on a drive
 

@@ -178,7 +178,8 @@ pub fn is_hek_available(image: &[u8], cells: &[u32]) -> bool
     is_available(active_in(image, cells))
 }
 
-// Whether a partition is a slot while a place is not empty, refusal 10 of what would change it.
+// Whether a partition is a slot while a place is not empty, refusal 10 of what would change it. The
+// cache is looked at for a slot alone, so that nothing need be kept over that look to ask it after.
 pub fn is_slot_in_use(image: &[u8], i: u32, context: &Context) -> bool
     ensures { λ r. ⌜ r ≡ slotInUse (now (image .entry)) i (now (context .entry)) ⌝ }
 {

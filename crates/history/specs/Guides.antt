@@ -1,5 +1,5 @@
--- Request P7: "only the answered word depends on the flag". Here is the claim of two maps that differ in flag 8 alone, of every call that
--- changes anything, over every list of them, and of the states; the theorem is in `GuidesProof`. Assumes nothing.
+-- Request P7: "only the answered word depends on the flag". Here is the claim of two maps that differ in flag 8 alone: of every call of the
+-- entry points that are lent something to change, over every list of them, and of the states; the theorem is in `GuidesProof`. Assumes nothing.
 use Prim.Native.Nat.{ℕ}
 use mathlib.Core.Path.{_≡_}
 use mathlib.Core.Bool.{Bool, true, false}
@@ -8,10 +8,10 @@ use Rattle.context.specs.State.{State}
 use Rattle.direct.specs.declared.Command.the-variants.{Read, Write, Zeroize}
 use Rattle.direct.specs.declared.Answer.{Answer}
 use Rattle.direct.specs.declared.Answer.the-variants.{Word as Shown, Done, Withheld, Refused}
+use Rattle.direct.specs.Direct.{directOf}
 use Rattle.drive.specs.Drive.{surveyAt, activeSlot}
 use Rattle.mailbox.specs.Mailbox.{Lent, mailboxOf}
 use Rattle.history.specs.Calls.{Call, Direct, Erase, EraseCut, Mailbox, TakeReply, MakeTable, Restart, told, after, afterAll}
-use Rattle.history.specs.Calls.{Told, Answering, Erasing, Replying, Taking, Making, Silent}
 
 -- an answer with its word left out
 abbrev pub wordless : Answer → Answer
@@ -19,15 +19,6 @@ wordless (Shown word) = Shown 0
 wordless Done = Done
 wordless Withheld = Withheld
 wordless (Refused number) = Refused number
-
--- what a call tells, the same
-abbrev pub wordlessTold : Told → Told
-wordlessTold (Answering answer) = Answering (wordless answer)
-wordlessTold (Erasing answer) = Erasing answer
-wordlessTold (Replying reply response) = Replying reply response
-wordlessTold (Taking answer) = Taking answer
-wordlessTold (Making answer) = Making answer
-wordlessTold Silent = Silent
 
 -- a call is a ZEROIZE
 abbrev pub zeroizes : Call → Bool
@@ -46,7 +37,7 @@ pub record OnlyTheWord (image other marks : List ℕ) : Type 0 where
   -- a call that is no ZEROIZE tells the same, the mailbox with all that it leaves; a ZEROIZE is refused alike and withheld alike
   pub same-told : (call : Call) → zeroizes call ≡ false → (s : State) → told other marks call s ≡ told image marks call s
   pub same-mailbox : (code : ℕ) (request : List ℕ) (l : Lent) → mailboxOf other marks code request l ≡ mailboxOf image marks code request l
-  pub same-but-word : (call : Call) (s : State) → wordlessTold (told other marks call s) ≡ wordlessTold (told image marks call s)
+  pub same-but-word : (cell : ℕ) (s : State) → wordless (directOf other marks (Zeroize cell) s .told) ≡ wordless (directOf image marks (Zeroize cell) s .told)
   -- cells and context, after a call and after every list of calls
   pub same-after : (call : Call) (s : State) → after other marks call s ≡ after image marks call s
   pub same-after-all : (calls : List Call) (s : State) → afterAll other marks calls s ≡ afterAll image marks calls s

@@ -1,4 +1,4 @@
--- Request P7, the theorem of `Guides`: nothing but the word that a ZEROIZE answers reads flag 8. Assumes nothing.
+-- Request P7, the theorem of `Guides`: past the map's own check nothing but the word that a ZEROIZE answers reads flag 8. Assumes nothing.
 use Prim.Native.Nat.{ℕ, _+_}
 use mathlib.Core.Path.{_≡_, refl, sym, ap, ap₂, _∙_}
 use mathlib.Core.Bool.{Bool, true, false, cond, _&&_, false≢true}
@@ -7,7 +7,7 @@ use lib.ListN.{length}
 use Rattle.laws.specs.Below.{firstBelow, first-same}
 use Rattle.laws.specs.Refusals.{firstOf, first-both}
 use Rattle.context.specs.State.{State, Outcome, outcome, refusing, telling, onCells}
-use Rattle.map.specs.Map.{headerOf, entryOf, secret, olderGuide, mapGood}
+use Rattle.map.specs.Map.{headerOf, entryOf, secret, mapGood}
 use Rattle.map.specs.Laws.{map-header}
 use Rattle.map.specs.Guides.{Differ8, SameBut8, same-header, same-entry, same-zeroizable, same-secret, same-slot}
 use Rattle.map.specs.declared.Header.{Header}
@@ -32,11 +32,11 @@ use Rattle.direct.specs.declared.Command.{Command}
 use Rattle.direct.specs.declared.Command.the-variants.{Read, Write, Zeroize}
 use Rattle.direct.specs.declared.Answer.{Answer}
 use Rattle.direct.specs.declared.Answer.the-variants.{Word as Shown, Withheld, Refused}
-use Rattle.direct.specs.Direct.{cellOf, wordOf, forbidden, changesSlot, wordTests, directTests, cellsAfter, onesAt, answerOf, carriedOut, directOf}
+use Rattle.direct.specs.Direct.{cellOf, wordOf, forbidden, changesSlot, wordTests, directTests, cellsAfter, toldWord, answerOf, carriedOut, directOf}
 use Rattle.direct.specs.Laws.{direct-at}
 use Rattle.history.specs.Calls.{Call, Direct, Erase, EraseCut, Mailbox, TakeReply, MakeTable, Restart, Told, Answering, Erasing}
 use Rattle.history.specs.Calls.{replying, outcomeOf, told, after, afterAll}
-use Rattle.history.specs.Guides.{wordless, wordlessTold, zeroizes, OnlyTheWord}
+use Rattle.history.specs.Guides.{wordless, zeroizes, OnlyTheWord}
 
 -- ---- what reads no flag 8
 
@@ -139,7 +139,7 @@ module _ (image other marks : List ℕ) (d : Differ8 image other) (good : mapGoo
   answer-alike : (i cell : ℕ) (wide : Bool) (bound word : ℕ)
       → wordless (answerOf (Zeroize cell) (entryOf other i) wide bound word) ≡ wordless (answerOf (Zeroize cell) (entryOf image i) wide bound word)
   answer-alike i cell wide bound word =
-      let shown : Entry → ℕ = λ x. cond (olderGuide x) (onesAt wide) word in
+      let shown : Entry → ℕ = λ x. toldWord x wide word in
       rw (same-secret (entry i)) (shown-alike (secret (entryOf image i) && short bound word) (shown (entryOf other i)) (shown (entryOf image i)))
 
   carried-alike : (found : Lookup) (cell : ℕ) (s : State)
@@ -230,30 +230,26 @@ module _ (image other marks : List ℕ) (d : Differ8 image other) (good : mapGoo
   call-same (MakeTable handles algorithms) o s = refl
   call-same Restart o s = refl
 
-  -- all but the word
-  abbrev AlikeTold : Outcome Told State → Outcome Told State → Type 0
-  AlikeTold o p = (wordlessTold (o .told) ≡ wordlessTold (p .told)) × (o .after ≡ p .after)
+  leaves : (call : Call) → zeroizes call ≡ false → (s : State) → after other marks call s ≡ after image marks call s
+  leaves call o s = ap (λ (p : Outcome Told State). p .after) (call-same call o s)
 
-  same-alike : {o p : Outcome Told State} → o ≡ p → AlikeTold o p
-  same-alike e = (ap (λ (q : Outcome Told State). wordlessTold (q .told)) e, ap (λ (q : Outcome Told State). q .after) e)
-
-  call-alike : (call : Call) (s : State) → AlikeTold (outcomeOf other marks call s) (outcomeOf image marks call s)
-  call-alike (Direct (Read cell)) s = same-alike (call-same (Direct (Read cell)) refl s)
-  call-alike (Direct (Write cell value)) s = same-alike (call-same (Direct (Write cell value)) refl s)
-  call-alike (Direct (Zeroize cell)) s = let z = zeroize-alike cell s in (ap Answering (z .0), z .1)
-  call-alike (Erase i) s = same-alike (call-same (Erase i) refl s)
-  call-alike (EraseCut i k mask) s = same-alike (call-same (EraseCut i k mask) refl s)
-  call-alike (Mailbox code request response block) s = same-alike (call-same (Mailbox code request response block) refl s)
-  call-alike (TakeReply reply) s = (refl, refl)
-  call-alike (MakeTable handles algorithms) s = (refl, refl)
-  call-alike Restart s = (refl, refl)
+  after-same : (call : Call) (s : State) → after other marks call s ≡ after image marks call s
+  after-same (Direct (Read cell)) s = leaves (Direct (Read cell)) refl s
+  after-same (Direct (Write cell value)) s = leaves (Direct (Write cell value)) refl s
+  after-same (Direct (Zeroize cell)) s = zeroize-alike cell s .1
+  after-same (Erase i) s = leaves (Erase i) refl s
+  after-same (EraseCut i k mask) s = leaves (EraseCut i k mask) refl s
+  after-same (Mailbox code request response block) s = leaves (Mailbox code request response block) refl s
+  after-same (TakeReply reply) s = refl
+  after-same (MakeTable handles algorithms) s = refl
+  after-same Restart s = refl
 
   pub only-the-word : OnlyTheWord image other marks
   only-the-word = record {
     same-told = λ call o s. ap (λ (q : Outcome Told State). q .told) (call-same call o s);
     same-mailbox = mailbox-same;
-    same-but-word = λ call s. call-alike call s .0;
-    same-after = λ call s. call-alike call s .1;
+    same-but-word = λ cell s. zeroize-alike cell s .0;
+    same-after = after-same;
     same-after-all = all;
     same-survey = survey;
     same-active = active;
@@ -261,4 +257,4 @@ module _ (image other marks : List ℕ) (d : Differ8 image other) (good : mapGoo
     where
       all : (calls : List Call) (s : State) → afterAll other marks calls s ≡ afterAll image marks calls s
       all [] s = refl
-      all (call ∷ calls) s = ap (afterAll other marks calls) (call-alike call s .1) ∙ all calls (after image marks call s)
+      all (call ∷ calls) s = ap (afterAll other marks calls) (after-same call s) ∙ all calls (after image marks call s)

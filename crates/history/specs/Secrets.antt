@@ -1,7 +1,7 @@
 -- Document 01, "Direct commands" and demand 2: what no answer shows, and when a key is loaded. Assumes nothing.
 use Prim.Native.Nat.{ℕ, _+_, _-_, _≤_, _<_}
 use mathlib.Core.Path.{_≡_, refl, sym, ap, _∙_}
-use mathlib.Core.Bool.{Bool, true, false, cond, false≢true}
+use mathlib.Core.Bool.{Bool, true, false, false≢true}
 use mathlib.Core.List.{List}
 use mathlib.Core.Logic.{⊎-elim}
 use native.Mathlib.Omega.{arith}
@@ -23,7 +23,7 @@ use Rattle.word.specs.Laws.{Found, apart, holds-at, word-tells, secret-wide}
 use Rattle.direct.specs.declared.Command.the-variants.{Read, Write, Zeroize}
 use Rattle.direct.specs.declared.Answer.{Answer}
 use Rattle.direct.specs.declared.Answer.the-variants.{Word as Shown, Done, Withheld, Refused}
-use Rattle.direct.specs.Direct.{wordOf, forbidden, directTests, cellsAfter, answerOf, carriedOut, directBy, directOf}
+use Rattle.direct.specs.Direct.{wordOf, forbidden, directTests, cellsAfter, toldWord, answerOf, carriedOut, directBy, directOf}
 use Rattle.direct.specs.Laws.{direct-at}
 use Rattle.drive.specs.Active.{Available, available-tells}
 use Rattle.codec.specs.Fields.{commandOf}
@@ -127,7 +127,7 @@ shown-least x wide bound word s w answer e y =
     ⊎-elim
     (λ (t : short bound word ≡ true). let q : answer ≡ Withheld = e ∙ rw (s, t) in absurd (false≢true (rw q at y)))
     (λ (t : short bound word ≡ false).
-    let q : answer ≡ Shown (cond (olderGuide x) allOnes word) = e ∙ rw (s, t, w) in
+    let q : answer ≡ Shown (toldWord x true word) = e ∙ rw (s, t, w) in
     let enough : bound ≤ onesOf word = ltb-false (onesOf word) bound t in
     let none : zerosOf allOnes ≤ 64 - bound = rw ones-all (omega arith) in
     let few : 64 - onesOf word ≤ 64 - bound = omega arith in

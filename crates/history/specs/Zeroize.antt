@@ -12,8 +12,7 @@ use borrow.Author.Tests.{not-false, lt-ltb, ltb-true}
 use Rattle.laws.specs.Tests.{and, cond-keeps}
 use Rattle.laws.specs.Refusals.{Applies, lacks, not-applies, first-elim}
 use Rattle.context.specs.State.{State, withCells, Outcome, refusing}
-use Rattle.map.specs.declared.Entry.{Entry}
-use Rattle.map.specs.Map.{headerOf, entryOf, secret, olderGuide, mapGood}
+use Rattle.map.specs.Map.{headerOf, entryOf, secret, mapGood}
 use Rattle.fuse.specs.Fuse.{free, onesOf, short, cellsIn, allOnes}
 use Rattle.burns.specs.Cells.{grown-burn, burn-beside, burn-fills}
 use Rattle.word.specs.declared.Role.{Role}
@@ -25,7 +24,7 @@ use Rattle.erasure.specs.Cuts.{whole-by}
 use Rattle.direct.specs.declared.Command.the-variants.{Zeroize}
 use Rattle.direct.specs.declared.Answer.{Answer}
 use Rattle.direct.specs.declared.Answer.the-variants.{Word as Shown, Withheld, Refused}
-use Rattle.direct.specs.Direct.{wordOf, directTests, cellsAfter, onesAt, carriedOut, directBy, directOf}
+use Rattle.direct.specs.Direct.{wordOf, directTests, cellsAfter, toldWord, carriedOut, directBy, directOf}
 use Rattle.direct.specs.Laws.{direct-at}
 use Rattle.history.specs.Calls.{Direct, Told, Answering, told, refusal, after}
 use Rattle.history.specs.Refused.{refused-unchanged}
@@ -51,11 +50,6 @@ pub record ZeroizeLeaves (image marks : List ℕ) (cell : ℕ) (s : State) : Typ
   pub refused : 1 ≤ refusal (told image marks (Direct (Zeroize cell)) s) → after image marks (Direct (Zeroize cell)) s ≡ s
   pub carried : refusal (told image marks (Direct (Zeroize cell)) s) ≡ 0
       → Zeroized image marks cell s (after image marks (Direct (Zeroize cell)) s) (told image marks (Direct (Zeroize cell)) s)
-
--- the word that is answered where none is withheld: on the older guide "all ones at the word's width, stuck fuses or not", else the word as
--- it stands
-abbrev pub wordBy : Entry → (wide : Bool) (cell : ℕ) → State → ℕ
-wordBy x wide cell now = cond (olderGuide x) (onesAt wide) (wordOf wide cell (now .cells))
 
 -- ---- the theorems
 
@@ -99,22 +93,23 @@ module _ (image marks : List ℕ) (cell : ℕ) (s : State) where
         hides = λ h few. rw (h, lt-ltb _ _ few);
       })
 
-  -- of the word of partition i that starts at the cell
+  -- it answers the word that it tells of partition i's word at the cell, by the flag, or withholds it
   module _ {i : ℕ} {role : Role} {wide : Bool} (starts : wordAt image cell ≡ Word i role wide) where
     abbrev Answers : Outcome Answer State → Type 0
-    Answers o = refusal (Answering (o .told)) ≡ 0 → (o .told ≡ Withheld) ⊎ (o .told ≡ Shown (wordBy (entryOf image i) wide cell (o .after)))
+    Answers o = refusal (Answering (o .told)) ≡ 0 → (o .told ≡ Withheld) ⊎ (o .told ≡ Shown (toldWord (entryOf image i) wide (wordOf wide cell (o .after .cells))))
 
     pub zeroize-answers : Answers (directOf image marks (Zeroize cell) s)
     unfolding carriedOut
     zeroize-answers =
         let tests = directTests (Word i role wide) (Zeroize cell) image marks s in
         let now = withCells (cellsAfter (Zeroize cell) wide marks (s .cells)) s in
-        let shown = wordBy (entryOf image i) wide cell now in
+        let stands = wordOf wide cell (now .cells) in
+        let shown = toldWord (entryOf image i) wide stands in
         subst Answers (sym (direct-at image marks (Zeroize cell) s starts))
         (first-elim Answers (refusing Refused s) tests (carriedOut (Word i role wide) (Zeroize cell) image marks s)
         (λ n a r. absurd (numbered tests refl a r))
         (λ none _. cond-keeps (λ (a : Answer). (a ≡ Withheld) ⊎ (a ≡ Shown shown))
-        (secret (entryOf image i) && short (headerOf image .bound) (wordOf wide cell (now .cells))) Withheld (Shown shown) (λ _. inl refl) (λ _. inr refl)))
+        (secret (entryOf image i) && short (headerOf image .bound) stands) Withheld (Shown shown) (λ _. inl refl) (λ _. inr refl)))
 
   pub zeroize-leaves : ZeroizeLeaves image marks cell s
   zeroize-leaves = record {

@@ -1,22 +1,22 @@
 -- Request P7, of maps: what two images have in common that differ in flag 8 alone, and that the flag is refused "exactly on a partition
 -- that is not zeroizable" (`eight-exactly`). Assumes nothing.
 use Prim.Native.Nat.{ℕ, _+_, _-_, _*_, _/_, _%_, _≤_, _<_}
-use mathlib.Core.Path.{_≡_, refl, sym, ap, subst, _∙_}
+use mathlib.Core.Path.{_≡_, sym, ap, subst, _∙_}
 use mathlib.Core.Logic.{⊎-elim}
-use mathlib.Core.Bool.{true, false, not, _||_, false≢true}
+use mathlib.Core.Bool.{Bool, true, false, not, _||_, false≢true}
 use mathlib.Core.List.{List}
 use native.Mathlib.Omega.{arith}
 use lib.ListN.{length}
 use lib.Dec.{eqb}
 use borrow.Author.Tests.{le-leb, not-false}
-use Rattle.laws.specs.Tests.{decided, not-yes, implied, neither, lt-or-le}
+use Rattle.laws.specs.Tests.{not-yes, implied, neither, lt-or-le}
 use Rattle.laws.specs.Below.{allBelow, all-at, all-holds, fails-at}
 use Rattle.endian.specs.Endian.{byteAt, u16At}
 use Rattle.map.specs.declared.Header.{Header}
 use Rattle.map.specs.declared.Entry.{Entry}
 use Rattle.map.specs.Map.{headerOf, entryPlace, entryAt, entryOf, zeroizable, secret, slot, olderGuide}
 use Rattle.map.specs.Map.{fillerGood, entryGood, endBefore, placeGood, mapGood}
-use Rattle.map.specs.Laws.{bad-filler, good-so-far, map-parts, map-header, map-entry}
+use Rattle.map.specs.Laws.{good-so-far, map-parts, map-fillers, map-header, map-entry}
 
 -- flags with flag 8 left out
 abbrev pub without8 : (flags : ℕ) → ℕ
@@ -39,6 +39,10 @@ pub record SameBut8 (x y : Entry) : Type 0 where
   pub n : y .n ≡ x .n
   pub kind : y .kind ≡ x .kind
   pub flags : without8 (y .flags) ≡ without8 (x .flags)
+
+-- flag 8 stands right, by its rule
+abbrev right8 : Entry → Bool
+right8 x = not (olderGuide x) || zeroizable x
 
 -- ---- what two such entries have in common
 
@@ -69,7 +73,7 @@ module _ {x y : Entry} (s : SameBut8 x y) where
   same-slot = ap (λ (b : ℕ). eqb b 1) (same-by (λ f. f / 4 % 2) bit-4)
 
   -- the other keeps the rules where this one does and flag 8 stands right
-  entry-same : (before cells spare : ℕ) → x .flags ≤ 15 → (not (olderGuide y) || zeroizable y) ≡ (not (olderGuide x) || zeroizable x)
+  entry-same : (before cells spare : ℕ) → x .flags ≤ 15 → right8 y ≡ right8 x
       → entryGood before cells y spare ≡ entryGood before cells x spare
   unfolding entryGood
   entry-same before cells spare low e =
@@ -138,7 +142,7 @@ module _ (image other : List ℕ) (d : Differ8 image other) (low : 8 ≤ headerO
   filler-same k l = rw (head-byte k l)
 
   place-good : (i : ℕ) → entryOf image i .flags ≤ 15
-      → (not (olderGuide (entryOf other i)) || zeroizable (entryOf other i)) ≡ (not (olderGuide (entryOf image i)) || zeroizable (entryOf image i))
+      → right8 (entryOf other i) ≡ right8 (entryOf image i)
       → placeGood other i ≡ placeGood image i
   unfolding placeGood
   place-good i small e =
@@ -146,12 +150,6 @@ module _ (image other : List ℕ) (d : Differ8 image other) (low : 8 ≤ headerO
       (entry-same (same-entry i) (endBefore image i) (headerOf image .cells) (u16At image (entryPlace image i + 6)) small e)
 
 -- ---- flag 8 is refused exactly on a partition that is not zeroizable
-
--- the bytes before the entries of a good map
-fillers : (s : List ℕ) → mapGood s ≡ true → allBelow (fillerGood s) (headerOf s .offset) ≡ true
-fillers s g =
-    ⊎-elim (λ t. t) (λ (f : allBelow (fillerGood s) (headerOf s .offset) ≡ false). absurd (false≢true (sym (bad-filler s (headerOf s) refl f) ∙ g)))
-    (decided (allBelow (fillerGood s) (headerOf s .offset)))
 
 -- a partition with flag 8 that is not zeroizable
 pub record Misplaced8 (image : List ℕ) : Type 0 where
@@ -168,14 +166,14 @@ module _ (image other : List ℕ) (d : Differ8 image other) (good : mapGood imag
   by-places =
       let h = same-header image other d low in
       good-so-far other (headerOf image) (sym h) (rw (d .as-long) (map-parts image good .0))
-      (all-holds (fillerGood other) (headerOf image .offset) (λ k l. filler-same image other d low k l ∙ all-at (fillerGood image) _ (fillers image good) k l))
+      (all-holds (fillerGood other) (headerOf image .offset) (λ k l. filler-same image other d low k l ∙ all-at (fillerGood image) _ (map-fillers image good) k l))
 
   -- an entry of the other map whose flag 8 stands right keeps its rules
-  kept : (i : ℕ) → i < headerOf image .partitions → (not (olderGuide (entryOf other i)) || zeroizable (entryOf other i)) ≡ true → placeGood other i ≡ true
+  kept : (i : ℕ) → i < headerOf image .partitions → right8 (entryOf other i) ≡ true → placeGood other i ≡ true
   unfolding placeGood
   kept i l e =
       let r = map-entry image good i l in
-      let right : (not (olderGuide (entryOf image i)) || zeroizable (entryOf image i)) ≡ true = implied _ _ (r .older-zeroizable) in
+      let right : right8 (entryOf image i) ≡ true = implied _ _ (r .older-zeroizable) in
       place-good image other d low i (r .flags-known) (e ∙ sym right) ∙ all-at (placeGood image) _ (map-parts image good .1) i l
 
   pub eight-exactly : (mapGood other ≡ false → Misplaced8 other) × (Misplaced8 other → mapGood other ≡ false)
@@ -189,7 +187,7 @@ module _ (image other : List ℕ) (d : Differ8 image other) (good : mapGood imag
       found e =
           let at = fails-at (placeGood other) (headerOf image .partitions) (sym by-places ∙ e) in
           let y = entryOf other (at .0) in
-          let wrong : (not (olderGuide y) || zeroizable y) ≡ false = not-yes _ (λ t. false≢true (sym (at .2) ∙ kept (at .0) (at .1) t)) in
+          let wrong : right8 y ≡ false = not-yes _ (λ t. false≢true (sym (at .2) ∙ kept (at .0) (at .1) t)) in
           let both = neither (not (olderGuide y)) (zeroizable y) wrong in
           let as-many = ap (λ (h : Header). h .partitions) (same-header image other d low) in
           record { partition = at .0; within = omega (arith, at .1, as-many); older = not-false _ (both .0); not-zeroizable = both .1 }

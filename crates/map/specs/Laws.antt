@@ -3,7 +3,7 @@
 use Prim.Native.Nat.{ℕ, zero, suc, _+_, _-_, _*_, _%_, _≤_, _<_}
 use mathlib.Core.Path.{_≡_}
 use mathlib.Core.Logic.{⊎-elim}
-use mathlib.Core.Bool.{Bool, true, false, and-false}
+use mathlib.Core.Bool.{Bool, true, false, _&&_, and-false}
 use mathlib.Core.List.{List}
 use native.Mathlib.Omega.{arith}
 use native.Mathlib.Numerals.{add-one}
@@ -149,6 +149,13 @@ entry-rules before cells x spare g =
 pub map-parts : (s : List ℕ) → mapGood s ≡ true → (headerGood (headerOf s) (length s) ≡ true) × (allBelow (placeGood s) (headerOf s .partitions) ≡ true)
 unfolding mapGood
 map-parts s g = let r = and _ _ g in (and _ _ (r .0) .0, r .1)
+
+pub map-fillers : (s : List ℕ) → mapGood s ≡ true → allBelow (fillerGood s) (headerOf s .offset) ≡ true
+unfolding mapGood
+map-fillers s g =
+    let header = headerGood (headerOf s) (length s) in
+    let fillers = allBelow (fillerGood s) (headerOf s .offset) in
+    and header fillers (and (header && fillers) _ g .0) .1
 
 pub map-header : (s : List ℕ) → mapGood s ≡ true → HeaderRules (headerOf s) (length s)
 map-header s g = header-rules _ _ (map-parts s g .0)

@@ -1,7 +1,7 @@
 // The map of the fuses: an image of bytes, judged by every rule of the document and read. Each
 // public function answers for any bytes of any length; only a good map's fields mean anything. The
-// rules are in `specs/Map`, what a good map gives its callers in `specs/Laws`. It rests on `endian`
-// and `laws`.
+// rules are in `specs/Map`, what a good map gives its callers in `specs/Laws`, what maps that differ
+// in flag 8 alone have in common in `specs/Guides`. It rests on `endian` and `laws`.
 ghost use mathlib.Core.Path.{_≡_};
 ghost use Prim.Native.Nat.{_+_, _*_, _^_, _<_, _≤_};
 ghost use lib.ListN.{length};

@@ -1,6 +1,6 @@
 //! Copies of the model with one fault each, for the tests of the tests: one for each thing that a
 //! comparison looks at, for each clause of a history one that breaks it, wrong states, reasons and
-//! maps, wrong places, orders and replies, wrong tables and handles, and wrong words of ZEROIZE. That
+//! maps, wrong places, orders and replies, wrong tables and handles, and wrong ZEROIZEs. That
 //! the proofs refuse faults of the key block itself is shown by the edits in `crates/*/must-fail`.
 
 mod engine;

@@ -1,5 +1,5 @@
-//! Document 01, "The map of the fuses": one broken image for each rule, and
-//! good images at the edges of the rules.
+//! Document 01, "The map of the fuses", with P7 of document 02: one broken image for each rule,
+//! and good images at the edges of the rules.
 
 use checks::drives;
 use checks::programs::{printed, PROGRAMS};

@@ -71,10 +71,7 @@ fn carry_out(lent: &mut Lent, command: Command) -> Answer {
         // "in a secret partition only if its ones reach B, otherwise withheld"
         Command::Zeroize { .. } if secret && !reaches_bound => Answer::Withheld,
         // P7: "the answer is all ones at the word's width, stuck fuses or not"
-        Command::Zeroize { .. } if entry.older_guide() => match word.size {
-            Size::Cell => Answer::Word(0xFFFF_FFFF),
-            Size::Pair => Answer::Word(0xFFFF_FFFF_FFFF_FFFF),
-        },
+        Command::Zeroize { .. } if entry.older_guide() => Answer::Word(word.size.all_ones()),
         _ => Answer::Word(now_stands),
     }
 }

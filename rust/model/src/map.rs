@@ -37,6 +37,16 @@ pub enum Size {
     Pair,
 }
 
+impl Size {
+    /// P7: "all ones at the word's width".
+    pub fn all_ones(self) -> u64 {
+        match self {
+            Size::Cell => 0xFFFF_FFFF,
+            Size::Pair => 0xFFFF_FFFF_FFFF_FFFF,
+        }
+    }
+}
+
 /// "The map of the fuses": a word, named by its first cell.
 #[derive(Clone, Copy, Debug, PartialEq, Eq)]
 pub struct Word {

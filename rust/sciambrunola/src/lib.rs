@@ -59,7 +59,8 @@ pub enum Command {
         /// The value; it must have every fuse that is already set.
         value: u64,
     },
-    /// Burns all ones into a word, and answers it; on the older guide see [`Answer::Word`].
+    /// Burns all ones into a word, and answers or withholds it; on the older guide see
+    /// [`Answer::Word`].
     Zeroize {
         /// The word's first cell.
         cell: u32,

@@ -131,8 +131,8 @@ impl<'a> Seen<'a> {
 
     /// Whether a direct command's word has this size, and fuses of it are unset.
     pub fn unset(&self, size: Size) -> bool {
-        let all = if size == Size::Cell { 0xFFFF_FFFF } else { u64::MAX };
-        self.named.map_or(false, |named| named.word.size == size && named.stands != all)
+        let unset = |named: Named| named.word.size == size && named.stands != size.all_ones();
+        self.named.map_or(false, unset)
     }
 
     /// Of a load: whether this holds of the places from the one it took on.

@@ -255,9 +255,9 @@ fn drive(random: &mut Random) -> Drive {
 fn damage(random: &mut Random, lent: &mut Lent) {
     match random.below(6) {
         0 => maps::damage_bytes(random, &mut lent.drive.image),
-        5 => maps::turn_guide(random, &mut lent.drive.image),
         1 | 2 => requests::damage_buffers(random, &mut lent.block, &mut lent.response),
         3 => tables::damage(random, &mut lent.table),
+        4 => maps::turn_guide(random, &mut lent.drive.image),
         _ => drives::damage_lengths(random, &mut lent.drive),
     }
 }

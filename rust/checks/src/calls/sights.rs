@@ -15,6 +15,9 @@ pub const ALL: &[Row<Sight>] = &[
         s.came == "ZEROIZE withheld" && !s.older() && s.word(true, -1)
     }),
     ("open word shown at B - 1", |s| s.came == "ZEROIZE word" && !s.older() && s.word(false, -1)),
+    ("pair shown with unset fuses", |s| {
+        s.came == "ZEROIZE word" && !s.older() && s.unset(Size::Pair)
+    }),
     ("32-bit word shown with unset fuses", |s| {
         s.came == "ZEROIZE word" && !s.older() && s.unset(Size::Cell)
     }),
