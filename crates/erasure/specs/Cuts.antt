@@ -1,7 +1,7 @@
 -- What document 01 says of erasures and cuts, from their definition: the lowest refusal is given, a cut that comes too late is none, and
 -- each answer tells the burns that the order reaches. Assumes nothing.
 use Prim.Native.Nat.{ℕ, _+_, _≤_, _<_}
-use mathlib.Core.Path.{_≡_, refl, ap, subst, _∙_}
+use mathlib.Core.Path.{_≡_, refl, ap, _∙_}
 use mathlib.Core.Bool.{Bool, true, false, cond}
 use mathlib.Core.List.{List}
 use native.Mathlib.Omega.{arith}
@@ -9,7 +9,7 @@ use lib.ListN.{length}
 use lib.Dec.{eqb}
 use borrow.Author.Tests.{not-false, leb-false, eqb-true, ne-eqb}
 use Rattle.laws.specs.Tests.{and}
-use Rattle.laws.specs.Refusals.{first-elim, first-both, Applies, not-applies, GivenFirst, given-first, GivenLowest, lowest-tells}
+use Rattle.laws.specs.Refusals.{first-elim, first-both, not-numbered, GivenFirst, given-first, GivenLowest, lowest-tells}
 use Rattle.context.specs.State.{State, Outcome, refusing, onCells}
 use Rattle.map.specs.Map.{headerOf, entryOf, software, mapGood}
 use Rattle.map.specs.Laws.{map-entry}
@@ -144,6 +144,6 @@ unfolding eraseOf
 burns-told image marks i k mask s =
     let tests = eraseTests image marks i s in
     first-elim (λ (o : Outcome Answer State). BurnsTold image i k (o .told)) (refusing unburned s) tests (burning image marks i k mask s)
-    (λ n a. rw (ne-eqb n 15 (λ e. not-applies 15 tests refl (subst (λ (m : ℕ). Applies m tests) e a))))
+    (λ n a. rw (ne-eqb n 15 (λ e. not-numbered 15 tests refl a e)))
     (λ none. run-tells image (s .cells) marks i k mask (whole-by image (s .cells) marks (not-false _ (none 0)) (not-false _ (none 1))) (leb-false _ _ (none 2))
     (runOn image (s .cells) marks i k mask .end) refl)

@@ -10,7 +10,7 @@ use lib.ListN.{length, take}
 use lib.Seq.{take-at}
 use borrow.Author.Tests.{not-false, leb-false, ne-eqb}
 use Rattle.laws.specs.Tests.{decided, cond-keeps}
-use Rattle.laws.specs.Refusals.{firstOf, first-elim, Applies, anyApplies, numberOf, any-refuses, none-accepts, number-applies, not-applies, applies-least}
+use Rattle.laws.specs.Refusals.{firstOf, first-elim, anyApplies, numberOf, any-refuses, none-accepts, number-applies, not-numbered, applies-least}
 use Rattle.context.specs.State.{State, Outcome, outcome, refusing}
 use Rattle.cache.specs.Cache.{cacheOf, AtRest, emptied}
 use Rattle.cache.specs.Laws.{emptied-rest}
@@ -120,7 +120,7 @@ module _ (image marks : List ℕ) (start : State) (request response block : List
       (λ (y : anyApplies fersTests ≡ true).
       let n = numberOf fersTests in
       let applies = number-applies fersTests y in
-      refuses (Replying (Refused n) []) (applies-least 1 fersTests refl n applies) (λ e. not-applies 15 fersTests refl (subst (λ (m : ℕ). Applies m fersTests) e applies))
+      refuses (Replying (Refused n) []) (applies-least 1 fersTests refl n applies) (λ e. not-numbered 15 fersTests refl applies e)
       (λ s q response′ block′ l. fers-refused s q response′ block′ l y))
       (λ (o : anyApplies fersTests ≡ false).
       let none = none-accepts (λ n. n) 0 fersTests o .none in

@@ -1,13 +1,13 @@
 -- Request P4: "15 is given exactly when no indicator fuse is set after its burn". First the claim, of every call of every entry point; then
 -- its proof. That 15 leaves every cell is `refused-unchanged`, that it tells one burn `erasure` burns-told. Assumes nothing.
 use Prim.Native.Nat.{ℕ, zero, suc, _≤_, _<_}
-use mathlib.Core.Path.{_≡_, refl, sym, ap, subst, _∙_}
+use mathlib.Core.Path.{_≡_, refl, sym, ap, _∙_}
 use mathlib.Core.Logic.{_⊎_, ⊎-elim, _↔_}
 use mathlib.Core.List.{List, []}
 use native.Mathlib.Omega.{arith}
 use lib.ListN.{length}
 use borrow.Author.Tests.{ne-eqb, not-false, leb-false}
-use Rattle.laws.specs.Refusals.{first-elim, Applies, not-applies}
+use Rattle.laws.specs.Refusals.{first-elim, not-numbered}
 use Rattle.context.specs.State.{State, Outcome, outcome, refusing}
 use Rattle.map.specs.Map.{headerOf}
 use Rattle.burns.specs.declared.End.{End}
@@ -75,8 +75,8 @@ module _ (image marks : List ℕ) (s : State) where
       let tests = eraseTests image marks i s in
       first-elim (λ (o : Outcome Answer State). Exactly i (o .told)) (refusing unburned s) tests (burning image marks i k mask s)
       (λ n a o.
-      absurd (⊎-elim (λ (z : n ≡ 0). not-applies 0 tests refl (subst (λ (m : ℕ). Applies m tests) z a))
-      (λ (z : n ≡ 15). not-applies 15 tests refl (subst (λ (m : ℕ). Applies m tests) z a)) o))
+      absurd (⊎-elim (λ (z : n ≡ 0). not-numbered 0 tests refl a z)
+      (λ (z : n ≡ 15). not-numbered 15 tests refl a z) o))
       (λ none. run-exactly i k mask first (whole-by image (s .cells) marks (not-false _ (none 0)) (not-false _ (none 1))) (leb-false _ _ (none 2))
       (runOn image (s .cells) marks i k mask .end) refl)
 
@@ -86,7 +86,7 @@ module _ (image marks : List ℕ) (s : State) where
   cut-first i mask =
       let tests = eraseTests image marks i s in
       first-elim (λ (o : Outcome Answer State). refusal (Erasing (o .told)) ≡ 15 → ⊥) (refusing unburned s) tests (burning image marks i 0 mask s)
-      (λ n a z. not-applies 15 tests refl (subst (λ (m : ℕ). Applies m tests) z a))
+      (λ n a z. not-numbered 15 tests refl a z)
       (λ none z. omega arith)
 
   cut-later : (i k mask : ℕ) → refusal (Erasing (eraseOf image marks i k mask s .told)) ≡ 15 → 1 ≤ k

@@ -9,7 +9,7 @@ use native.Mathlib.Omega.{arith}
 use lib.ListN.{length}
 use borrow.Author.Tests.{not-false, leb-false}
 use Rattle.laws.specs.Tests.{decided}
-use Rattle.laws.specs.Refusals.{firstOf, Applies, anyApplies, numberOf, any-refuses, none-accepts, number-applies, not-applies, applies-least}
+use Rattle.laws.specs.Refusals.{firstOf, anyApplies, numberOf, any-refuses, none-accepts, number-applies, not-numbered, applies-least}
 use Rattle.context.specs.State.{State, withContext, Outcome, refusing}
 use Rattle.map.specs.Map.{headerOf, entryOf, zeroizable, mapGood}
 use Rattle.drive.specs.Drive.{Whole as WholeDrive, wholeArrays}
@@ -135,7 +135,7 @@ module _ (image marks : List ℕ) (i : ℕ) (start : State) where
         (λ (y : anyApplies startTests ≡ true).
         let n = numberOf startTests in
         let applies = number-applies startTests y in
-        refuses (Erasing (RefusedErasure n 0)) (applies-least 1 startTests refl n applies) (λ e. not-applies 15 startTests refl (subst (λ (m : ℕ). Applies m startTests) e applies))
+        refuses (Erasing (RefusedErasure n 0)) (applies-least 1 startTests refl n applies) (λ e. not-numbered 15 startTests refl applies e)
         (λ s q response block l.
         let e : erasing s ≡ refusing unburned s n = by-tests s q ∙ any-refuses (refusing unburned s) (burning image marks i k mask s) startTests y in
         (is s response block .0 ∙ ap (λ (o : Outcome Answer State). Erasing (o .told)) e, is s response block .1 ∙ ap (λ (o : Outcome Answer State). o .after .cells) e)))

@@ -10,7 +10,7 @@ use lib.ListN.{length}
 use lib.Dec.{eqb}
 use borrow.Author.Tests.{ne-eqb, not-false, leb-false}
 use Rattle.laws.specs.Tests.{cond-keeps}
-use Rattle.laws.specs.Refusals.{first-elim, testAt, Applies, not-applies}
+use Rattle.laws.specs.Refusals.{first-elim, testAt, not-numbered}
 use Rattle.context.specs.State.{State, withCells, withContext, Outcome, outcome, refusing}
 use Rattle.map.specs.declared.Entry.{Entry}
 use Rattle.map.specs.Map.{headerOf, secret, mapGood}
@@ -86,11 +86,11 @@ module _ (image marks : List ℕ) (s : State) where
   by-lookup command Nothing =
       let tests = directTests Nothing command image marks s in
       first-elim DirectStays (refusing NotDone s) tests (carriedOut Nothing command image marks s)
-      (λ n a l. (refl, λ e. not-applies 15 tests refl (subst (λ (m : ℕ). Applies m tests) e a))) (λ none l. (refl, λ e. omega arith))
+      (λ n a l. (refl, λ e. not-numbered 15 tests refl a e)) (λ none l. (refl, λ e. omega arith))
   by-lookup command (Found i role wide) =
       let tests = directTests (Found i role wide) command image marks s in
       first-elim DirectStays (refusing NotDone s) tests (carriedOut (Found i role wide) command image marks s)
-      (λ n a l. (refl, λ e. not-applies 15 tests refl (subst (λ (m : ℕ). Applies m tests) e a))) (λ none l. absurd (not-refused command _ _ _ _ l))
+      (λ n a l. (refl, λ e. not-numbered 15 tests refl a e)) (λ none l. absurd (not-refused command _ _ _ _ l))
 
   pub direct-stays : (command : Command) → DirectStays (directOf image marks command s)
   direct-stays command = subst DirectStays (sym (direct-at image marks command s refl)) (by-lookup command (wordAt image (cellOf command)))

@@ -10,7 +10,7 @@ use lib.ListN.{length, getD}
 use lib.Bits.{bitOr}
 use borrow.Author.Tests.{not-false, lt-ltb, ltb-true}
 use Rattle.laws.specs.Tests.{and, cond-keeps}
-use Rattle.laws.specs.Refusals.{Applies, lacks, not-applies, first-elim}
+use Rattle.laws.specs.Refusals.{not-numbered, first-elim}
 use Rattle.context.specs.State.{State, withCells, Outcome, refusing}
 use Rattle.map.specs.Map.{headerOf, entryOf, secret, mapGood}
 use Rattle.fuse.specs.Fuse.{free, onesOf, short, cellsIn, allOnes}
@@ -53,10 +53,6 @@ pub record ZeroizeLeaves (image marks : List ℕ) (cell : ℕ) (s : State) : Typ
 
 -- ---- the theorems
 
--- no refusal has the number 0
-numbered : (tests : List (Bool × ℕ)) → lacks 0 tests ≡ true → {n : ℕ} → Applies n tests → n ≡ 0 → ⊥
-numbered tests g a e = not-applies 0 tests g (subst (λ (m : ℕ). Applies m tests) e a)
-
 -- it is withheld by its test alone
 withheld-by : (hides : Bool) (shown : ℕ) → Answering (cond hides Withheld (Shown shown)) ≡ Answering Withheld → hides ≡ true
 withheld-by true shown e = refl
@@ -71,11 +67,11 @@ module _ (image marks : List ℕ) (cell : ℕ) (s : State) where
   carried-by NoWord e =
       let tests = directTests NoWord (Zeroize cell) image marks s in
       first-elim Carried (refusing Refused s) tests (carriedOut NoWord (Zeroize cell) image marks s)
-      (λ n a r. absurd (numbered tests refl a r)) (λ none r. absurd (omega arith))
+      (λ n a r. absurd (not-numbered 0 tests refl a r)) (λ none r. absurd (omega arith))
   carried-by (Word i role wide) e =
       let tests = directTests (Word i role wide) (Zeroize cell) image marks s in
       first-elim Carried (refusing Refused s) tests (carriedOut (Word i role wide) (Zeroize cell) image marks s)
-      (λ n a r. absurd (numbered tests refl a r))
+      (λ n a r. absurd (not-numbered 0 tests refl a r))
       (λ none _.
       let good : mapGood image ≡ true = not-false _ (none 0) in
       let found = word-tells image good cell i role wide (sym e) in
@@ -107,7 +103,7 @@ module _ (image marks : List ℕ) (cell : ℕ) (s : State) where
         let shown = toldWord (entryOf image i) wide stands in
         subst Answers (sym (direct-at image marks (Zeroize cell) s starts))
         (first-elim Answers (refusing Refused s) tests (carriedOut (Word i role wide) (Zeroize cell) image marks s)
-        (λ n a r. absurd (numbered tests refl a r))
+        (λ n a r. absurd (not-numbered 0 tests refl a r))
         (λ none _. cond-keeps (λ (a : Answer). (a ≡ Withheld) ⊎ (a ≡ Shown shown))
         (secret (entryOf image i) && short (headerOf image .bound) stands) Withheld (Shown shown) (λ _. inl refl) (λ _. inr refl)))
 

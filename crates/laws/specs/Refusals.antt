@@ -2,7 +2,7 @@
 -- A call's refusals are a list: a test that tells whether the refusal applies, and its number. The first of the list that applies is
 -- given; where the numbers ascend, that is the lowest. Assumes nothing.
 use Prim.Native.Nat.{ℕ, zero, suc, _≤_, _<_}
-use mathlib.Core.Path.{_≡_, refl, sym, _∙_}
+use mathlib.Core.Path.{_≡_, refl, sym, subst, _∙_}
 use mathlib.Core.Logic.{_⊎_, inl, inr, ⊎-elim}
 use mathlib.Core.Bool.{Bool, true, false, cond, not, _&&_, false≢true}
 use mathlib.Core.List.{List, [], _∷_, _++_}
@@ -137,6 +137,10 @@ not-applies n [] g a = a
 not-applies n ((applies, number) ∷ tests) g a =
     let both = and (not (eqb number n)) (lacks n tests) g in
     ⊎-elim (λ (e : (applies ≡ true) × (n ≡ number)). eqb-false number n (not-true _ (both .0)) (sym (e .1))) (not-applies n tests (both .1)) a
+
+-- so a refusal that applies has another number
+pub not-numbered : (n : ℕ) (tests : List (Bool × ℕ)) → lacks n tests ≡ true → {m : ℕ} → Applies m tests → m ≡ n → ⊥
+not-numbered n tests g a e = not-applies n tests g (subst (λ (m : ℕ). Applies m tests) e a)
 
 -- ---- the first of the list
 

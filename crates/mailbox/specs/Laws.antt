@@ -9,7 +9,7 @@ use lib.ListN.{length}
 use borrow.Author.Tests.{ltb-false, leb-false, eqb-true, eq-eqb, ne-eqb, not-false}
 use Rattle.laws.specs.Tests.{neither}
 use Rattle.laws.specs.Refusals.{firstOf, numberOf, number-refuses, number-passes, accepted-tells, first-elim, testAt}
-use Rattle.laws.specs.Refusals.{Applies, not-applies, Accepted as Passed, lacks, ascendFrom}
+use Rattle.laws.specs.Refusals.{not-numbered, Accepted as Passed, lacks, ascendFrom}
 use Rattle.context.specs.State.{State, state, withCells, withContext, Outcome, outcome, refusing, telling}
 use Rattle.handles.specs.Handles.{tableOf, hasTable}
 use Rattle.map.specs.declared.Header.{Header}
@@ -209,7 +209,7 @@ module _ (image marks : List ℕ) (code : ℕ) (request : List ℕ) (l : Lent) {
   carried z =
       let told = accepted-tells (refusing refused (l .state .cells)) (λ (o : Outcome Effect (List ℕ)). not (eqb (o .told .refusal) 0)) callTests
       (accepted (commandOf code) image marks request (l .state))
-      (λ n a. ap not (ne-eqb n 0 (λ q. not-applies 0 callTests (numbered .not-0) (subst (λ (m : ℕ). Applies m callTests) q a))))
+      (λ n a. ap not (ne-eqb n 0 (λ q. not-numbered 0 callTests (numbered .not-0) a q)))
       (ap (λ (o : Outcome Effect (List ℕ)). not (eqb (o .told .refusal) 0)) (sym d) ∙ ap not (eq-eqb _ _ z)) in
       let is : e .order ≡ accepted (commandOf code) image marks request (l .state) .told .order = ap (λ (o : Outcome Effect (List ℕ)). o .told .order) (d ∙ told .is) in
       let lent-good = neither (not (eqb (length (l .block)) 128)) _ (told .none 2) in

@@ -8,7 +8,7 @@ use lib.ListN.{length}
 use lib.Dec.{eqb}
 use borrow.Author.Tests.{ne-eqb, not-false, leb-false}
 use Rattle.laws.specs.Tests.{neither, cond-keeps}
-use Rattle.laws.specs.Refusals.{firstOf, first-elim, first-map, first-agree, testAt, Applies, not-applies}
+use Rattle.laws.specs.Refusals.{firstOf, first-elim, first-map, first-agree, testAt, not-numbered}
 use Rattle.laws.specs.Refusals.{GivenFirst, given-first, GivenLowest, lowest-tells}
 use Rattle.context.specs.State.{State, Outcome, outcome, refusing, telling}
 use Rattle.map.specs.Map.{mapGood}
@@ -88,7 +88,7 @@ module _ (image marks : List ℕ) (code : ℕ) (request : List ℕ) (room block 
       ∙ first-agree (λ n. replyOf (refused n)) Refused callTests (replyOf (callDone .told))
       (λ n a.
       let numbered = numbered-by (commandOf code) image marks code request (lentBad room block (s .context)) s in
-      rw (ne-eqb n 0 (λ (z : n ≡ 0). not-applies 0 callTests (numbered .not-0) (subst (λ (m : ℕ). Applies m callTests) z a))))
+      rw (ne-eqb n 0 (λ (z : n ≡ 0). not-numbered 0 callTests (numbered .not-0) a z)))
 
   pub reply-first : GivenFirst Refused callTests (replyOf (callDone .told)) (replyOf (doneOf image marks code request room block s .told))
   reply-first = subst (GivenFirst Refused callTests (replyOf (callDone .told))) (sym told-by) (given-first Refused (replyOf (callDone .told)) callTests)
@@ -108,8 +108,8 @@ module _ (image marks : List ℕ) (code : ℕ) (request : List ℕ) (room block 
       let numbered = numbered-by (commandOf code) image marks code request (lentBad room block (s .context)) s in
       first-elim P (refusing refused (s .cells)) callTests callDone
       (λ n a.
-      by-test n (λ e. not-applies 0 callTests (numbered .not-0) (subst (λ (m : ℕ). Applies m callTests) e a))
-      (λ e. not-applies 15 callTests (numbered .not-15) (subst (λ (m : ℕ). Applies m callTests) e a)))
+      by-test n (λ e. not-numbered 0 callTests (numbered .not-0) a e)
+      (λ e. not-numbered 15 callTests (numbered .not-15) a e))
       -- two tests of the drive, one of what is lent besides, four of the request, then the command's own
       (λ none. by-command (none 2) (not-false _ (none 0)) (not-false _ (none 1)) (not-false _ (none 3)) (λ k. none (suc (suc (suc (suc (suc (suc (suc k)))))))))
 
