@@ -86,6 +86,19 @@
  * The active slot is the first slot in map order that is not erased. The HEK is
  * available when there is an active slot and it is programmed.
  *
+ * New fuses. A fuse is new when a burn set it that was not set before. WRITE, ZEROIZE,
+ * erasures, cut ones too, and FERS tell how many of the fuses that they burned are new:
+ * the set fuses after the call minus those before it. A stuck fuse is never new, nor one
+ * that was set already. The charge that a call drew from the supply is this number times
+ * the charge of one fuse. Over any erasures of a partition, cut and refused ones and
+ * FERS among them, with restarts between them, the sum is the set fuses of all cells
+ * after the last minus those before the first, while nothing else changes the cells.
+ * The limits. In a secret partition WRITE and ZEROIZE do not tell it, since it would tell
+ * how many fuses of a word of the seed were unset; 0 stands in its place, though the call
+ * may have drawn charge. An erasure and FERS do tell it of a secret partition: how many
+ * fuses of all its words together, the seed's among them, were unset before, stuck ones
+ * aside. So does sci_erase_cut, see there. A call that is refused has no new fuse.
+ *
  * The key cache and the engine. CLKC, KLOD and KUNL have an order for the encryption
  * engine, and the engine's reply to it is awaited until the drive hands it in; also the
  * reply to a CLKC of an empty cache. A place of the cache is
@@ -202,7 +215,7 @@ extern "C" {
 
 /* The version of this header and of the archive that goes with it: it grows by one
  * whenever something changes for a caller. docs/CHANGES.md says what. */
-#define SCI_VERSION 11
+#define SCI_VERSION 12
 
 /* Of a function whose answer has to be looked at: a warning where it is not, if the
  * compiler has one. An erasure that ended is not yet an erased partition. */
@@ -293,7 +306,7 @@ extern "C" {
 #define SCI_ENDED 0
 #define SCI_CUT 1
 #define SCI_ERASURE_REFUSED 2
-/* sci_erasure.first_short, and the last field of FERS's response, where no pair
+/* sci_erasure.first_short, and the first short cell in FERS's response, where no pair
  * is short. */
 #define SCI_NO_CELL UINT32_C(0xFFFFFFFF)
 /* The active slot's partition in FSTA's response, where no slot is active. */
@@ -372,10 +385,14 @@ typedef struct {
 
 /* What a direct command answers. */
 typedef struct {
-    uint32_t kind;    /* SCI_WORD, SCI_DONE, SCI_WITHHELD or SCI_REFUSED */
-    uint32_t refusal; /* the refusal's number, 0 unless refused */
-    uint64_t word;    /* the word, by ZEROIZE on the older guide all ones; 0 unless one
-                         is answered */
+    uint32_t kind;      /* SCI_WORD, SCI_DONE, SCI_WITHHELD or SCI_REFUSED */
+    uint32_t refusal;   /* the refusal's number, 0 unless refused */
+    uint64_t word;      /* the word, by ZEROIZE on the older guide all ones; 0 unless one
+                           is answered */
+    uint32_t new_fuses; /* the fuses of the word that WRITE or ZEROIZE newly set, where
+                           a word is answered and its partition is not secret; 0 in
+                           every other answer: of READ, of a secret partition, done,
+                           withheld, refused */
 } sci_answer;
 
 /* What an erasure answers. Look at the kind first. SCI_ENDED: the partition is erased
@@ -394,6 +411,8 @@ typedef struct {
                              is none; else 0 */
     uint32_t burns;       /* burns carried out: all of them if ended; k + 1 if cut;
                              1 if refused with 15, which set no fuse; else 0 */
+    uint32_t new_fuses;   /* the fuses that these burns newly set, in a secret partition
+                             too; 0 if refused, with 15 too */
 } sci_erasure;
 
 /* What the mailbox answers. */
@@ -498,7 +517,7 @@ sci_answer sci_read(const uint8_t *image, size_t image_bytes,
 /*
  * WRITE of a value to the data word that starts at this cell. Burns each fuse
  * of the value that is not stuck, and leaves all others. Answers the word as it
- * then stands, or done in a secret partition.
+ * then stands, with its new fuses, or done in a secret partition.
  * Refused: 1, 2, 7; 8 for digest, indicator, life cycle, a marked partition, a
  * value over 32 bits for a 32-bit word; 9 where the value lacks a set fuse; 10.
  * While a place of the cache is not empty, 9 or 10 tells whether the value lacks a set
@@ -513,12 +532,13 @@ sci_answer sci_write(const uint8_t *image, size_t image_bytes,
 
 /*
  * ZEROIZE of the word that starts at this cell. Burns each of its fuses that
- * is not stuck, and leaves all others. Answers the word as it then stands; in a
- * secret partition only if its ones reach the map's bound, otherwise withheld.
+ * is not stuck, and leaves all others. Answers the word as it then stands, with its new
+ * fuses; in a secret partition the word alone, and only if its ones reach the map's
+ * bound, otherwise withheld.
  * In a partition on the older guide (SCI_FLAG_OLDER_GUIDE) all ones at the word's
  * width, 0xFFFFFFFF or 0xFFFFFFFFFFFFFFFF, are answered in the word's place; what burns,
- * what is withheld (by the ones of the word as it stands) and what is refused are the
- * same.
+ * the new fuses, what is withheld (by the ones of the word as it stands) and what is
+ * refused are the same.
  * Warning: on the older guide the answered word tells nothing of stuck fuses; in a
  * secret partition, only that the word's ones reach the bound. Whether a partition is
  * erased its state tells, by sci_states, and not this word.
@@ -536,13 +556,13 @@ sci_answer sci_zeroize(const uint8_t *image, size_t image_bytes,
  * digest; no other fuse changes. A short word does not stop it, nor does a short
  * indicator; an indicator without a set fuse does, with 15. Answers SCI_ENDED, the
  * short pairs that are left, those of digest and indicator included, the first cell
- * of the lowest of them, and the number of burns, one for each word.
+ * of the lowest of them, the number of burns, one for each word, and the new fuses.
  * The partition is erased exactly if short_pairs is 0 or first_short is its
  * indicator's cell; otherwise it is torn, and its seed may still be there.
- * Asked for again, after a cut too, it begins at the indicator. It answers as
- * the first time, or as it would have if that one was cut, where every place of
- * the cache is empty both times, the image and the marks are the same, and since
- * then no other call or writer has changed the cells: only this one,
+ * Asked for again, after a cut too, it begins at the indicator. But for the new fuses
+ * it answers as the first time, or as it would have if that one was cut, where every
+ * place of the cache is empty both times, the image and the marks are the same, and
+ * since then no other call or writer has changed the cells: only this one,
  * sci_erase_cut and FERS, each of this partition. An awaited reply of the engine
  * does not stop it. The context stays as it was.
  * Refused: 1, 2; 7 if there is no such partition; 8 if it is not zeroizable;
@@ -559,7 +579,10 @@ sci_erasure sci_erase(const uint8_t *image, size_t image_bytes,
  * the burns before it are whole, burn k has the mask in place of all ones (its
  * low half for the first cell of a pair; its low 32 bits for a 32-bit word), and
  * nothing follows. Then every place of the cache is empty, and a reply that was
- * awaited is so no longer; the table stays. Answers SCI_CUT and k + 1 burns.
+ * awaited is so no longer; the table stays. Answers SCI_CUT, k + 1 burns, and the new
+ * fuses, of burn k those that it set itself. In a secret partition too, so that a mask of
+ * one fuse tells whether that fuse was unset: it is for trying out what a drive does
+ * after a power failure, and not for a host.
  * If the erasure would end before burn k, at the end of its order or with 15,
  * it is sci_erase: the answer and the cells are the same, and the context stays
  * as it was.
@@ -624,8 +647,8 @@ uint32_t sci_make_table(sci_context *context,
  *             tag high: 20 bytes                           12 bytes
  *   SCI_FERS  chksum, reserved, partition                  ..., short pairs,
  *             12 bytes                                     first short cell or
- *                                                          SCI_NO_CELL
- *                                                          20 bytes
+ *                                                          SCI_NO_CELL, new fuses
+ *                                                          24 bytes
  *   SCI_FSTA  chksum, reserved                             ..., active slot's
  *             8 bytes                                      partition or
  *                                                          SCI_NO_SLOT, HEK
@@ -652,8 +675,9 @@ uint32_t sci_make_table(sci_context *context,
  * engine's reply is handed in by sci_engine_reply.
  * FERS is sci_erase of the partition that it names: it is erased exactly if the
  * response's short pairs are 0 or its first short cell is the indicator's;
- * otherwise it is torn, and its seed may still be there. The block and the context
- * are unchanged, and there is no order for the engine.
+ * otherwise it is torn, and its seed may still be there. The new fuses are told to the
+ * host, of a secret partition too. The block and the context are unchanged, and there is
+ * no order for the engine.
  * FSTA changes nothing but the response; there is no order for the engine.
  * EHDL tells the handles of the table, in its order, with their algorithms. It changes
  * nothing but the response; there is no order for the engine.

@@ -10,12 +10,10 @@ const PASSES: usize = 40;
 const ROUNDS: usize = 100;
 
 fn main() -> ExitCode {
-    let arguments: Vec<String> = std::env::args().skip(1).collect();
-    let write = arguments == ["--write"];
-    if !write && !arguments.is_empty() {
+    let Some(write) = asked_to_write() else {
         eprintln!("usage: bench [--write]");
         return ExitCode::FAILURE;
-    }
+    };
     if cfg!(debug_assertions) {
         panic!("times say something in an optimised build alone: --release");
     }
@@ -31,4 +29,12 @@ fn main() -> ExitCode {
         table::write(&text);
     }
     ExitCode::SUCCESS
+}
+
+/// Whether the table is to be written; none for other arguments. They are gone before anything is
+/// measured, so that what is measured lies where it lies without them.
+fn asked_to_write() -> Option<bool> {
+    let arguments: Vec<String> = std::env::args().skip(1).collect();
+    (arguments.len() <= 1 && arguments.iter().all(|argument| argument == "--write"))
+        .then_some(arguments.len() == 1)
 }

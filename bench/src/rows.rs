@@ -4,8 +4,8 @@ use checks::largest::{self, every_state, last_slot_active, last_slot_torn, TAIL}
 use checks::maps::MOST_CELLS as CELLS;
 use checks::{lent, small, texts};
 use model::{
-    entry, Call, Drive, EngineReply, Erase, Image, KeyBlock, Lent, Mail, Model, Request, Table,
-    Values, HARDWARE, SLOT_FLAGS, SOFTWARE, ZEROIZABLE,
+    Call, Drive, EngineReply, Erase, KeyBlock, Lent, Mail, Model, Request, Table, Values, HARDWARE,
+    SLOT_FLAGS, SOFTWARE, ZEROIZABLE,
 };
 use sciambrunola::LONGEST_IMAGE;
 
@@ -105,8 +105,6 @@ fn write_map(name: &str, text: Vec<u8>) -> Row {
 /// A drive with one partition in all 2,048 cells. Of some pairs four fuses are
 /// stuck, so that they are not short once they are burned.
 fn one_partition(kind: u8, flags: u8) -> Drive {
-    let entries = vec![entry(0, CELLS as u16, kind, flags)];
-    let image = Image { cells: CELLS as u16, bound: 60, entries_at: 8, entries };
     let marks = (0..CELLS).map(|cell| if cell % 6 == 0 { 0x0F } else { 0 }).collect();
-    Drive { image: image.bytes(), cells: vec![0; CELLS], marks }
+    Drive { marks, ..largest::one_partition(kind, flags) }
 }

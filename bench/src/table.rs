@@ -29,8 +29,8 @@ for which the whole map is judged. `none short` is an erasure after which no pai
 the lowest short pair is looked for through all data. `write map` is `sci_write_map` of the text of \
 the small drive's map, and of that of the largest one, which becomes 136 bytes. Where the linker \
 puts the code moves a row by up to a seventh, and the engine's reply, the shortest, by a quarter: of \
-one archive, linked in two places, the first of the erasures in pairs took 790 and 900 ns, the reply \
-19 and 24, `write map` of the largest map 241 and 259.
+one archive, linked in two places, the reply took 19 and 24 ns, `write map` of the largest map 241 and \
+259. The plain erasure and FERS count each cell before its burn and after it.
 ";
 
 /// The comments in README.md that the table stands between.

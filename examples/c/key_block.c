@@ -141,12 +141,13 @@ static bool make_table(void)
     return true;
 }
 
+/* The new fuses tell the charge that the burns drew: so many times that of one fuse. */
 static sci_erasure erase(void)
 {
     sci_erasure erasure = sci_erase(map, sizeof map, cells, CELLS, marks, CELLS, &context, SLOT);
     if (erasure.kind == SCI_ENDED) {
-        printf("erasure: %" PRIu32 " short, %" PRIu32 " burns\n", erasure.short_pairs,
-               erasure.burns);
+        printf("erasure: %" PRIu32 " short, %" PRIu32 " burns, %" PRIu32 " new fuses\n",
+               erasure.short_pairs, erasure.burns, erasure.new_fuses);
     } else {
         printf("erasure: refused %" PRIu32 "\n", erasure.refusal);
     }
@@ -172,7 +173,8 @@ static bool erase_slot_cut(void)
     if (erasure.kind != SCI_CUT) {
         return failed("cut erasure", erasure.refusal);
     }
-    printf("erasure cut: %" PRIu32 " burns\n", erasure.burns);
+    printf("erasure cut: %" PRIu32 " burns, %" PRIu32 " new fuses\n", erasure.burns,
+           erasure.new_fuses);
     return true;
 }
 

@@ -124,11 +124,12 @@ impl Drive {
         Ok(())
     }
 
+    /// The new fuses tell the charge that the burns drew: so many times that of one fuse.
     fn erase(&mut self) -> Erasure {
         let erasure = erase(&MAP, &mut self.cells, &self.marks, &mut self.context, SLOT);
         match erasure {
-            Erasure::Ended { short_pairs, burns, .. } => {
-                println!("erasure: {short_pairs} short, {burns} burns");
+            Erasure::Ended { short_pairs, burns, new_fuses, .. } => {
+                println!("erasure: {short_pairs} short, {burns} burns, {new_fuses} new fuses");
             }
             Erasure::Refused { number, .. } => println!("erasure: refused {number}"),
             Erasure::Cut { .. } => {} // this erasure is not cut
@@ -167,8 +168,8 @@ impl Drive {
     fn erase_slot_cut(&mut self) -> Step {
         let Drive { cells, marks, context, .. } = self;
         match erase_cut(&MAP, cells, marks, context, SLOT, 1, 0xFFFF_FFFF) {
-            Erasure::Cut { burns } => {
-                println!("erasure cut: {burns} burns");
+            Erasure::Cut { burns, new_fuses } => {
+                println!("erasure cut: {burns} burns, {new_fuses} new fuses");
                 Ok(())
             }
             other => failed("cut erasure", other),

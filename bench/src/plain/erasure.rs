@@ -1,4 +1,4 @@
-//! Document 01, "Erasing a partition", without cuts; document 02, P4.
+//! Document 01, "Erasing a partition", without cuts; document 02, P4 and P8.
 
 use super::cache::any_held;
 use super::fuses::{burn, is_short, marks_partition};
@@ -14,6 +14,8 @@ pub struct Erased {
     pub first_short: Option<u32>,
     /// The burns carried out.
     pub burns: u32,
+    /// The fuses that they newly set.
+    pub new_fuses: u32,
 }
 
 /// Erases a partition: refusals 1, 2, 7, 8, 10 and 15.
@@ -39,36 +41,37 @@ pub fn judge(map: &Map, cache: &Cache, number: u32) -> Result<Entry, Refusal> {
 /// Erases a partition that was judged: refusal 15.
 pub fn run(map: &Map, drive: &mut Drive, entry: Entry) -> Result<Erased, Refusal> {
     let (part, marks) = (&mut drive.cells[entry.range()], &drive.marks[entry.range()]);
-    let burns = burn_in_order(part, marks, entry)?;
+    let (burns, new_fuses) = burn_in_order(part, marks, entry)?;
     let (short_pairs, lowest) = count_short(part, map.header.bound);
     let first_short = lowest.map(|pair| u32::from(entry.first) + 2 * pair);
-    Ok(Erased { short_pairs, first_short, burns })
+    Ok(Erased { short_pairs, first_short, burns, new_fuses })
 }
 
-/// Burns the indicator, the data words ascending and the digest: refusal 15.
-fn burn_in_order(part: &mut [u32], marks: &[u32], entry: Entry) -> Result<u32, Refusal> {
+/// Burns the indicator, the data words ascending and the digest, and counts the burns and the fuses
+/// that they newly set: refusal 15.
+fn burn_in_order(part: &mut [u32], marks: &[u32], entry: Entry) -> Result<(u32, u32), Refusal> {
     let (digest, indicator) = (part.len() - 4, part.len() - 2);
-    burn(&mut part[indicator..], &marks[indicator..]);
+    let first = burn(&mut part[indicator..], &marks[indicator..]);
     if !marks_partition(&part[indicator..]) {
         return Err(15);
     }
-    let data = if entry.is_software() {
+    let (burns, data) = if entry.is_software() {
         burn_words::<1>(&mut part[..digest], marks)
     } else {
         burn_words::<2>(&mut part[..digest], marks)
     };
-    burn(&mut part[digest..indicator], &marks[digest..indicator]);
-    Ok(data + 2)
+    let last = burn(&mut part[digest..indicator], &marks[digest..indicator]);
+    Ok((burns + 2, first + data + last))
 }
 
-/// Burns words of so many cells, one by one, and counts them.
-fn burn_words<const CELLS: usize>(data: &mut [u32], marks: &[u32]) -> u32 {
-    let mut burns = 0;
+/// Burns words of so many cells, one by one, and counts them and the fuses that they newly set.
+fn burn_words<const CELLS: usize>(data: &mut [u32], marks: &[u32]) -> (u32, u32) {
+    let (mut burns, mut new_fuses) = (0, 0);
     for (word, marks) in data.chunks_exact_mut(CELLS).zip(marks.chunks_exact(CELLS)) {
-        burn(word, marks);
+        new_fuses += burn(word, marks);
         burns += 1;
     }
-    burns
+    (burns, new_fuses)
 }
 
 /// The number of short pairs, and the lowest of them.

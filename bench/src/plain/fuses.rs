@@ -1,4 +1,4 @@
-//! Document 01, "Burning and counting" and the active slot; document 02, P1 and P4.
+//! Document 01, "Burning and counting" and the active slot; document 02, P1, P4 and P8.
 
 use super::map::{Entry, Map};
 use super::Refusal;
@@ -89,9 +89,13 @@ fn ones(pair: &[u32]) -> u32 {
     fuses.count_ones()
 }
 
-/// Burns all ones into a word of any number of cells.
-pub fn burn(word: &mut [u32], marks: &[u32]) {
+/// Burns all ones into a word of any number of cells, and counts the fuses that it newly sets.
+pub fn burn(word: &mut [u32], marks: &[u32]) -> u32 {
+    let mut new_fuses = 0;
     for (cell, mark) in word.iter_mut().zip(marks) {
+        let before = cell.count_ones();
         *cell |= !mark;
+        new_fuses += cell.count_ones() - before;
     }
+    new_fuses
 }

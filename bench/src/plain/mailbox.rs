@@ -1,4 +1,4 @@
-//! Document 01, "Mailbox", with the engine block; document 02, P5 and P6.
+//! Document 01, "Mailbox", with the engine block; document 02, P5, P6 and P8.
 
 use super::fuses::active_slot;
 use super::map::Map;
@@ -88,7 +88,7 @@ fn tell(
             cache::judge_idle(keys)?;
             let erased = erasure::run(map, drive, entry)?;
             let first_short = erased.first_short.unwrap_or(NONE);
-            respond(response, &[erased.short_pairs, first_short])
+            respond(response, &[erased.short_pairs, first_short, erased.new_fuses])
         }
         b"EHDL" => {
             cache::judge_idle(keys)?;

@@ -22,8 +22,8 @@ impl KeyBlock for Plain {
             }),
             Call::Erase(Erase { partition, cut: None }) => {
                 Said::Erasure(match plain::erase(&mut drive, cache, *partition) {
-                    Ok(Erased { short_pairs, first_short, burns }) => {
-                        Erasure::Erased { short_pairs, first_short, burns }
+                    Ok(Erased { short_pairs, first_short, burns, new_fuses }) => {
+                        Erasure::Erased { short_pairs, first_short, burns, new_fuses }
                     }
                     Err(number) => Erasure::Refused { number, burns: (number == 15).into() },
                 })

@@ -1,11 +1,11 @@
--- Document 01, "Erasing a partition", with request P4: the order of burns, and the one run in this order that erasures, cut ones and FERS
--- are. Cells and marks are the partition's, counted from where it starts. Assumes nothing.
+-- Document 01, "Erasing a partition", with requests P4 and P8: the order of burns, and the one run in this order that erasures, cut ones
+-- and FERS are. Cells and marks are the partition's, counted from where it starts. Assumes nothing.
 use Prim.Native.Nat.{ℕ, zero, suc, _+_, _-_, _/_}
 use mathlib.Core.Bool.{Bool, true, cond, not, _&&_}
 use mathlib.Core.List.{List, [], _∷_, _++_}
 use lib.ListN.{length}
 use lib.Dec.{eqb}
-use Rattle.fuse.specs.Fuse.{cellsIn, allOnes, burnWord}
+use Rattle.fuse.specs.Fuse.{cellsIn, allOnes, burnWord, newFuses}
 use Rattle.partition.specs.Partition.{marked, tail}
 use Rattle.burns.specs.declared.Word.{Word}
 use Rattle.burns.specs.declared.End.{End}
@@ -37,21 +37,23 @@ order software n = pairFrom (n - 2) ∷ (dataWords software n ++ (pairFrom (n - 
 
 -- ---- the run
 
--- what a run has done so far: the cells, and "the number of burns carried out"
+-- what a run has done so far: the cells, "the number of burns carried out" and, by request P8, the fuses that they newly set
 pub record Tally : Type 0 where
   pub cells : List ℕ
   pub burns : ℕ
+  pub new : ℕ
 
-abbrev pub tallyOf : (cells : List ℕ) (burns : ℕ) → Tally
-tallyOf cells burns = record { cells = cells; burns = burns }
+abbrev pub tallyOf : (cells : List ℕ) (burns new : ℕ) → Tally
+tallyOf cells burns new = record { cells = cells; burns = burns; new = new }
 
 -- before the first burn
 abbrev pub start : (cells : List ℕ) → Tally
-start cells = tallyOf cells 0
+start cells = tallyOf cells 0 0
 
--- one burn more: v into a word, by the function that "carries out a single burn and touches its word alone"
+-- one burn more: v into a word, by the function that "carries out a single burn and touches its word alone"; what it reports is added up
 abbrev pub carry : (marks : List ℕ) → Word → (v : ℕ) → Tally → Tally
-carry marks word v t = tallyOf (burnWord marks (word .at) (word .wide) v (t .cells)) (t .burns + 1)
+carry marks word v t =
+    tallyOf (burnWord marks (word .at) (word .wide) v (t .cells)) (t .burns + 1) (t .new + newFuses marks (word .at) (word .wide) v (t .cells))
 
 -- request P4: "Erasure goes on whenever it is marked after the first burn"
 unfoldable pub goesOn : (cells : List ℕ) → Bool
@@ -82,6 +84,18 @@ burnsOf marks mask (suc k) (word ∷ words) t =
 abbrev pub run : (marks : List ℕ) (software : Bool) (k mask : ℕ) (cells : List ℕ) → Ran
 run marks software k mask cells = burnsOf marks mask k (order software (length cells)) (start cells)
 
+-- ---- as the code has it
+
+-- what burn number j burns, and how a run ends whose last burn it is
+abbrev pub valueOf : (j k mask : ℕ) → ℕ
+valueOf j k mask = cond (eqb j k) mask allOnes
+
+abbrev pub endOf : (j k : ℕ) → End
+endOf j k = cond (eqb j k) Cut Whole
+
+abbrev pub reportOf : End → (burns new : ℕ) → Report
+reportOf end burns new = record { end = end; burns = burns; new = new }
+
 -- what the code reports of a run, with the cells that it left
 abbrev pub ranAs : Report → (cells : List ℕ) → Ran
-ranAs r cells = ran (r .end) (tallyOf cells (r .burns))
+ranAs r cells = ran (r .end) (tallyOf cells (r .burns) (r .new))

@@ -4,7 +4,8 @@ use mathlib.Core.Path.{_≡_, refl}
 use mathlib.Core.Bool.{true, false}
 use mathlib.Core.List.{List, [], _∷_, _++_}
 use lib.ListN.{replicate}
-use Rattle.fuse.specs.Fuse.{burnCell, burnWord}
+use lib.Count.{onesIn}
+use Rattle.fuse.specs.Fuse.{burnCell, burnWord, setFuses, newFuses}
 use Rattle.partition.specs.Partition.{marked}
 use Rattle.burns.specs.declared.End.the-variants.{Whole, Stopped, Cut}
 use Rattle.burns.specs.Run.{wordFrom, pairFrom, wordsFrom, order, tallyOf, goesOn, stopsAfter, ran, burnsOf, run}
@@ -36,14 +37,14 @@ runs :
     ∷ run (zeros 6 ++ (all ∷ all ∷ [])) true 9 0 (1 ∷ zeros 7)
     ∷ run (zeros 6 ++ (all ∷ all ∷ [])) true 9 0 (1 ∷ zeros 5 ++ (4 ∷ 0 ∷ []))
     ∷ []
-    ≡ ran Cut (tallyOf (0 ∷ 0 ∷ 0 ∷ 0 ∷ 0 ∷ 0 ∷ 5 ∷ 3 ∷ []) 1)
-    ∷ ran Cut (tallyOf (all ∷ all ∷ 5 ∷ 3 ∷ 0 ∷ 0 ∷ all ∷ all ∷ []) 3)
-    ∷ ran Cut (tallyOf (all ∷ all ∷ all ∷ all ∷ 5 ∷ 3 ∷ all ∷ all ∷ []) 4)
-    ∷ ran Cut (tallyOf (5 ∷ 0 ∷ 0 ∷ 0 ∷ all ∷ all ∷ []) 2)
-    ∷ ran Whole (tallyOf (all ∷ all ∷ 0xFFFF_FFE0 ∷ all ∷ all ∷ all ∷ all ∷ all ∷ []) 4)
-    ∷ ran Whole (tallyOf (all ∷ all ∷ all ∷ all ∷ all ∷ all ∷ 0 ∷ 0x8000_0000 ∷ []) 6)
-    ∷ ran Stopped (tallyOf (1 ∷ zeros 7) 1)
-    ∷ ran Whole (tallyOf (all ∷ all ∷ all ∷ all ∷ all ∷ all ∷ 4 ∷ 0 ∷ []) 6)
+    ≡ ran Cut (tallyOf (0 ∷ 0 ∷ 0 ∷ 0 ∷ 0 ∷ 0 ∷ 5 ∷ 3 ∷ []) 1 4)
+    ∷ ran Cut (tallyOf (all ∷ all ∷ 5 ∷ 3 ∷ 0 ∷ 0 ∷ all ∷ all ∷ []) 3 132)
+    ∷ ran Cut (tallyOf (all ∷ all ∷ all ∷ all ∷ 5 ∷ 3 ∷ all ∷ all ∷ []) 4 196)
+    ∷ ran Cut (tallyOf (5 ∷ 0 ∷ 0 ∷ 0 ∷ all ∷ all ∷ []) 2 66)
+    ∷ ran Whole (tallyOf (all ∷ all ∷ 0xFFFF_FFE0 ∷ all ∷ all ∷ all ∷ all ∷ all ∷ []) 4 187)
+    ∷ ran Whole (tallyOf (all ∷ all ∷ all ∷ all ∷ all ∷ all ∷ 0 ∷ 0x8000_0000 ∷ []) 6 192)
+    ∷ ran Stopped (tallyOf (1 ∷ zeros 7) 1 0)
+    ∷ ran Whole (tallyOf (all ∷ all ∷ all ∷ all ∷ all ∷ all ∷ 4 ∷ 0 ∷ []) 6 191)
     ∷ []
-unfolding burnsOf order wordsFrom burnWord burnCell stopsAfter goesOn marked
+unfolding burnsOf order wordsFrom burnWord burnCell newFuses setFuses onesIn stopsAfter goesOn marked
 runs = refl

@@ -1,4 +1,4 @@
--- Document 01, "Mailbox", the table, and request P6's two messages: the commands, their codes, and one field list for each request and
+-- Document 01, "Mailbox", the table, request P6's two messages and request P8's field: the commands, their codes, and one field list for each request and
 -- each response, from which requests are read and responses written. Assumes nothing.
 use Prim.Native.Nat.{ℕ, _+_, _*_, _^_}
 use mathlib.Core.Path.{_≡_}
@@ -51,7 +51,8 @@ known Unknown = false
 
 -- ---- fields
 
--- the names of the table's fields; request P6's are document 003's, `handle` and `hpke_algorithm` with their place in the list
+-- the names of the table's fields; request P6's are document 003's, `handle` and `hpke_algorithm` with their place in the list; the fuses
+-- newly set are request P8's
 pub data Field : Type 0 where
   Chksum : Field
   Reserved : Field
@@ -64,6 +65,7 @@ pub data Field : Type 0 where
   Place : Field
   Short-pairs : Field
   First-short : Field
+  New-fuses : Field
   Active-slot : Field
   Hek-available : Field
   Hpke-handle-count : Field
@@ -104,12 +106,12 @@ asked Unknown = []
 abbrev pub listed : (count : ℕ) → List Field
 listed count = take (2 * count) (Handle-0 ∷ Hpke-algorithm-0 ∷ Handle-1 ∷ Hpke-algorithm-1 ∷ Handle-2 ∷ Hpke-algorithm-2 ∷ [])
 
--- the column "response after reserved", by what the response is to hold
+-- the column "response after reserved", by what the response is to hold; request P8: "FERS carries it as a last field (24 bytes)"
 abbrev pub answered : Command → Numbers → List Field
 answered Clkc numbers = []
 answered Klod numbers = Place ∷ []
 answered Kunl numbers = []
-answered Fers numbers = Short-pairs ∷ First-short ∷ []
+answered Fers numbers = Short-pairs ∷ First-short ∷ New-fuses ∷ []
 answered Fsta numbers = Active-slot ∷ Hek-available ∷ []
 answered Ehdl numbers = Hpke-handle-count ∷ listed (numbers .first)
 answered Rhpk numbers = Hpke-handle ∷ []
@@ -169,8 +171,11 @@ abbrev pub written : (numbers : List ℕ) → List ℕ
 written numbers = joined (map bytes4 numbers)
 
 -- the numbers of a response, in the order of its fields after reserved; those past its list are not written
+abbrev pub threeNumbers : (first second third : ℕ) → Numbers
+threeNumbers first second third = record { first = first; second = second; third = third; fourth = 0; fifth = 0; sixth = 0; seventh = 0 }
+
 abbrev pub twoNumbers : (first second : ℕ) → Numbers
-twoNumbers first second = record { first = first; second = second; third = 0; fourth = 0; fifth = 0; sixth = 0; seventh = 0 }
+twoNumbers first second = threeNumbers first second 0
 
 abbrev pub oneNumber : (first : ℕ) → Numbers
 oneNumber first = twoNumbers first 0

@@ -2,7 +2,7 @@
 use mathlib.Core.Path.{_≡_, refl}
 use mathlib.Core.List.{[], _∷_, _++_, map}
 use Rattle.codec.specs.declared.Command.the-variants.{Clkc, Klod, Kunl, Fers, Fsta, Ehdl, Rhpk, Unknown}
-use Rattle.codec.specs.Fields.{commandOf, Cmd-timeout, Tag-low, Tag-high, Mek, Partition, Place, Short-pairs, First-short, Active-slot, Hek-available}
+use Rattle.codec.specs.Fields.{commandOf, Cmd-timeout, Tag-low, Tag-high, Mek, Partition, Place, Short-pairs, First-short, New-fuses, Active-slot, Hek-available}
 use Rattle.codec.specs.Fields.{Hpke-handle-count, Handle-0, Hpke-algorithm-0, Handle-1, Hpke-algorithm-1, Handle-2, Hpke-algorithm-2, Hpke-handle}
 use Rattle.codec.specs.Fields.{requestFields, responseFields, noNumbers, oneNumber, lengthOf, placeOf}
 
@@ -15,7 +15,7 @@ codes = refl
 request-bytes : map (λ command. lengthOf (requestFields command)) (Clkc ∷ Klod ∷ Kunl ∷ Fers ∷ Fsta ∷ Ehdl ∷ Rhpk ∷ []) ≡ 12 ∷ 84 ∷ 20 ∷ 12 ∷ 8 ∷ 8 ∷ 12 ∷ []
 request-bytes = refl
 
-response-bytes : map (λ command. lengthOf (responseFields command noNumbers)) (Clkc ∷ Klod ∷ Kunl ∷ Fers ∷ Fsta ∷ Rhpk ∷ []) ≡ 12 ∷ 16 ∷ 12 ∷ 20 ∷ 20 ∷ 16 ∷ []
+response-bytes : map (λ command. lengthOf (responseFields command noNumbers)) (Clkc ∷ Klod ∷ Kunl ∷ Fers ∷ Fsta ∷ Rhpk ∷ []) ≡ 12 ∷ 16 ∷ 12 ∷ 24 ∷ 20 ∷ 16 ∷ []
 response-bytes = refl
 
 -- request P6, EHDL: 24, 32 or 40
@@ -31,9 +31,10 @@ request-places = refl
 response-places :
     placeOf Place (responseFields Klod noNumbers)
     ∷ placeOf Short-pairs (responseFields Fers noNumbers) ∷ placeOf First-short (responseFields Fers noNumbers)
+    ∷ placeOf New-fuses (responseFields Fers noNumbers)
     ∷ placeOf Active-slot (responseFields Fsta noNumbers) ∷ placeOf Hek-available (responseFields Fsta noNumbers)
     ∷ placeOf Hpke-handle (responseFields Rhpk noNumbers) ∷ []
-    ≡ 12 ∷ 12 ∷ 16 ∷ 12 ∷ 16 ∷ 12 ∷ []
+    ≡ 12 ∷ 12 ∷ 16 ∷ 20 ∷ 12 ∷ 16 ∷ 12 ∷ []
 response-places = refl
 
 list-places :

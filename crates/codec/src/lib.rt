@@ -8,7 +8,7 @@ ghost use lib.ListN.{length, take, getD};
 ghost use Rattle.laws.specs.Put.{Put};
 ghost use Rattle.laws.specs.Refusals.{numberOf};
 ghost use Rattle.codec.specs.Fields.{commandOf, known, Partition, Hpke-handle, asked, listed, answered, lengthOf, requestFields, responseFields};
-ghost use Rattle.codec.specs.Fields.{numberAt, mekAt, TimeoutIn, TagIn, written, twoNumbers, oneNumber, noNumbers, numbersIn, responseIn, leastRoom};
+ghost use Rattle.codec.specs.Fields.{numberAt, mekAt, TimeoutIn, TagIn, written, threeNumbers, twoNumbers, oneNumber, noNumbers, numbersIn, responseIn, leastRoom};
 ghost use Rattle.codec.specs.Request.{requestTests};
 
 // The commands that the mailbox knows, and any other code.
@@ -194,19 +194,25 @@ pub struct Numbers {
     pub seventh: u32,
 }
 
-// Numbers of a response: two, one, none.
-pub fn two_numbers(first: u32, second: u32) -> Numbers
-    ensures { λ r. ⌜ r ≡ twoNumbers first second ⌝ }
+// Numbers of a response: three, two, one, none.
+pub fn three_numbers(first: u32, second: u32, third: u32) -> Numbers
+    ensures { λ r. ⌜ r ≡ threeNumbers first second third ⌝ }
 {
     Numbers {
         first: first,
         second: second,
-        third: 0,
+        third: third,
         fourth: 0,
         fifth: 0,
         sixth: 0,
         seventh: 0,
     }
+}
+
+pub fn two_numbers(first: u32, second: u32) -> Numbers
+    ensures { λ r. ⌜ r ≡ twoNumbers first second ⌝ }
+{
+    three_numbers(first, second, 0)
 }
 
 pub fn one_number(first: u32) -> Numbers
@@ -240,7 +246,7 @@ fn number_count(command: Command, numbers: Numbers) -> usize
         Command::Clkc => 0,
         Command::Klod => 1,
         Command::Kunl => 0,
-        Command::Fers => 2,
+        Command::Fers => 3,
         Command::Fsta => 2,
         Command::Ehdl => listed_count(numbers.first),
         Command::Rhpk => 1,

@@ -1,4 +1,4 @@
--- Document 01, "Direct commands", with request P7: what a command on a word answers, and the cells that it leaves. Assumes nothing.
+-- Document 01, "Direct commands", with requests P7 and P8: what a command on a word answers, and the cells that it leaves. Assumes nothing.
 use Prim.Native.Nat.{ℕ, _+_, _^_}
 use mathlib.Core.Bool.{Bool, true, false, cond, not, _&&_, _||_}
 use mathlib.Core.List.{List, [], _∷_, _++_}
@@ -9,7 +9,7 @@ use Rattle.laws.specs.Refusals.{firstOf}
 use Rattle.context.specs.State.{State, withCells, Outcome, outcome, refusing}
 use Rattle.map.specs.declared.Entry.{Entry}
 use Rattle.map.specs.Map.{headerOf, entryOf, lifeCycle, zeroizable, secret, olderGuide}
-use Rattle.fuse.specs.Fuse.{allSet, pairOf, short, allOnes, burnWord}
+use Rattle.fuse.specs.Fuse.{allSet, pairOf, short, allOnes, burnWord, newFuses}
 use Rattle.word.specs.declared.Role.{Role}
 use Rattle.word.specs.declared.Role.the-variants.{Data, Digest, Indicator}
 use Rattle.word.specs.declared.Lookup.{Lookup}
@@ -23,7 +23,7 @@ use Rattle.direct.specs.declared.Command.the-variants.{Read, Write, Zero
 use Rattle.direct.specs.declared.Found.{Found}
 use Rattle.direct.specs.declared.Found.the-variants.{Word as FoundWord, Refused as Barred}
 use Rattle.direct.specs.declared.Answer.{Answer}
-use Rattle.direct.specs.declared.Answer.the-variants.{Word as Shown, Done, Withheld, Refused}
+use Rattle.direct.specs.declared.Answer.the-variants.{Word as Shown, Burned, Done, Withheld, Refused}
 
 -- "each naming a word": its first cell
 abbrev pub cellOf : Command → ℕ
@@ -85,6 +85,12 @@ cellsAfter (Read cell) wide marks cells = cells
 cellsAfter (Write cell value) wide marks cells = burnWord marks cell wide value cells
 cellsAfter (Zeroize cell) wide marks cells = burnWord marks cell wide allOnes cells
 
+-- request P8, "the number of fuses it newly set": READ sets none
+unfoldable pub newAfter : Command → (wide : Bool) (marks cells : List ℕ) → ℕ
+newAfter (Read cell) wide marks cells = 0
+newAfter (Write cell value) wide marks cells = newFuses marks cell wide value cells
+newAfter (Zeroize cell) wide marks cells = newFuses marks cell wide allOnes cells
+
 -- request P7: "all ones at the word's width"
 abbrev pub onesAt : (wide : Bool) → ℕ
 onesAt true = allOnes
@@ -96,20 +102,24 @@ abbrev pub toldWord : Entry → (wide : Bool) (word : ℕ) → ℕ
 toldWord x wide word = cond (olderGuide x) (onesAt wide) word
 
 -- what is answered of the word of a partition as it now stands. WRITE: "or done in a secret partition". ZEROIZE: "in a secret partition
--- only if its ones reach B, otherwise withheld"; request P7: "Withholding stays"
-abbrev pub answerOf : Command → Entry → (wide : Bool) (bound word : ℕ) → Answer
-answerOf (Read cell) x wide bound word = Shown word
-answerOf (Write cell value) x wide bound word = cond (secret x) Done (Shown word)
-answerOf (Zeroize cell) x wide bound word = cond (secret x && short bound word) Withheld (Shown (toldWord x wide word))
+-- only if its ones reach B, otherwise withheld"; request P7: "Withholding stays". Request P8: "ZEROIZE and WRITE answer it beside their
+-- word", the fuses newly set; "In a secret partition WRITE and ZEROIZE do not show it"
+abbrev pub answerOf : Command → Entry → (wide : Bool) (bound word new : ℕ) → Answer
+answerOf (Read cell) x wide bound word new = Shown word
+answerOf (Write cell value) x wide bound word new = cond (secret x) Done (Burned word new)
+answerOf (Zeroize cell) x wide bound word new =
+    cond (secret x) (cond (short bound word) Withheld (Shown (toldWord x wide word))) (Burned (toldWord x wide word) new)
 
 -- the answer is by the word as it now stands
-abbrev pub shownOf : Command → (image : List ℕ) (i : ℕ) (wide : Bool) → State → Outcome Answer State
-shownOf command image i wide s = outcome (answerOf command (entryOf image i) wide (headerOf image .bound) (wordOf wide (cellOf command) (s .cells))) s
+abbrev pub shownOf : Command → (image : List ℕ) (i : ℕ) (wide : Bool) (new : ℕ) → State → Outcome Answer State
+shownOf command image i wide new s =
+    outcome (answerOf command (entryOf image i) wide (headerOf image .bound) (wordOf wide (cellOf command) (s .cells)) new) s
 
 -- a cell that starts no word is refused before
 unfoldable pub carriedOut : Lookup → Command → (image marks : List ℕ) → State → Outcome Answer State
 carriedOut Nothing command image marks s = refusing Refused s 7
-carriedOut (Word i role wide) command image marks s = shownOf command image i wide (withCells (cellsAfter command wide marks (s .cells)) s)
+carriedOut (Word i role wide) command image marks s =
+    shownOf command image i wide (newAfter command wide marks (s .cells)) (withCells (cellsAfter command wide marks (s .cells)) s)
 
 -- a command, by what its cell starts
 abbrev pub directBy : Lookup → (image marks : List ℕ) → Command → State → Outcome Answer State

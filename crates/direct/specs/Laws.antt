@@ -1,7 +1,7 @@
 -- The laws of direct commands: what their tests are at the entry that was read, and the number that they give. Assumes nothing.
 use Prim.Native.Nat.{ℕ, _+_, _^_, _≤_, _<_}
 use mathlib.Core.Path.{_≡_, refl, sym, ap, subst, _∙_}
-use mathlib.Core.Bool.{Bool, true, false, cond, not, _&&_, _||_}
+use mathlib.Core.Bool.{Bool, true, false, not, _&&_, _||_}
 use mathlib.Core.List.{List}
 use native.Mathlib.Omega.{arith}
 use lib.Dec.{leb}
@@ -14,7 +14,7 @@ use Rattle.context.specs.State.{State, withCells, Outcome, outcome, refusing}
 use Rattle.map.specs.declared.Entry.{Entry}
 use Rattle.map.specs.declared.Header.{Header}
 use Rattle.map.specs.Map.{headerOf, entryOf, lifeCycle, zeroizable, secret}
-use Rattle.fuse.specs.Fuse.{pairOf, short, cellsIn}
+use Rattle.fuse.specs.Fuse.{pairOf, cellsIn}
 use Rattle.word.specs.declared.Role.{Role}
 use Rattle.word.specs.declared.Lookup.{Lookup}
 use Rattle.word.specs.declared.Lookup.the-variants.{Word, Nothing}
@@ -29,8 +29,8 @@ use Rattle.direct.specs.declared.Command.the-variants.{Read, Write, Zero
 use Rattle.direct.specs.declared.Found.{Found}
 use Rattle.direct.specs.declared.Found.the-variants.{Word as FoundWord, Refused as Barred}
 use Rattle.direct.specs.declared.Answer.{Answer}
-use Rattle.direct.specs.declared.Answer.the-variants.{Word as Shown, Withheld, Refused}
-use Rattle.direct.specs.Direct.{cellOf, wordOf, isData, forbidden, clears, wordTests, directTests, cellsAfter, toldWord, answerOf, shownOf, carriedOut}
+use Rattle.direct.specs.declared.Answer.the-variants.{Refused}
+use Rattle.direct.specs.Direct.{cellOf, wordOf, isData, forbidden, clears, wordTests, directTests, cellsAfter, newAfter, answerOf, shownOf, carriedOut}
 use Rattle.direct.specs.Direct.{directBy, directOf, foundBy, foundOf}
 
 -- what is known of a word that was found: a drive that was judged, and a word that lies in it
@@ -70,14 +70,6 @@ module _ (cells : List ℕ) (wide : Bool) (cell value : ℕ) {word : ℕ} (e : w
   pub write-keeps : bitOr word value ≡ value → clears (Write cell value) cells wide ≡ false
   unfolding clears
   write-keeps q = rw (eq-eqb (bitOr (wordOf wide cell cells) value) value (rw e at q))
-
--- ZEROIZE's answer, by its test and by the word that is told
-module _ (x : Entry) (wide : Bool) (bound word : ℕ) {hides : Bool} (test : hides ≡ (secret x && short bound word)) where
-  pub zeroize-withheld : hides ≡ true → Withheld ≡ answerOf (Zeroize 0) x wide bound word
-  zeroize-withheld y = ap (λ (h : Bool). cond h Withheld (Shown (toldWord x wide word))) (sym y ∙ test)
-
-  pub zeroize-told : hides ≡ false → {told : ℕ} → told ≡ toldWord x wide word → Shown told ≡ answerOf (Zeroize 0) x wide bound word
-  zeroize-told n e = ap Shown e ∙ ap (λ (h : Bool). cond h Withheld (Shown (toldWord x wide word))) (sym n ∙ test)
 
 -- ---- a command on a drive
 
@@ -197,13 +189,14 @@ module _ (image marks : List ℕ) (command : Command) (s : State) where
     word-at k p y = refused-at (refusing Refused s) done k tests p y ∙ found-tells e
 
     -- where none does it is carried out: the answer at the values that were read
-    pub word-carried : Past 3 tests → {cells′ : List ℕ} {header : Header} {x : Entry} {word : ℕ} {r : Answer}
-        → cells′ ≡ cellsAfter command wide marks (s .cells) → header ≡ headerOf image → x ≡ entryOf image i → word ≡ wordOf wide (cellOf command) cells′
-        → r ≡ answerOf command x wide (header .bound) word
+    pub word-carried : Past 3 tests → {cells′ : List ℕ} {header : Header} {x : Entry} {word new : ℕ} {r : Answer}
+        → cells′ ≡ cellsAfter command wide marks (s .cells) → new ≡ newAfter command wide marks (s .cells)
+        → header ≡ headerOf image → x ≡ entryOf image i → word ≡ wordOf wide (cellOf command) cells′
+        → r ≡ answerOf command x wide (header .bound) word new
         → outcome r (withCells cells′ s) ≡ directOf image marks command s
     unfolding Tells carriedOut
-    word-carried none {cells′} p h x w q =
-        ap (λ (answer : Answer). outcome answer (withCells cells′ s)) (q ∙ rw (w, h, x) refl)
-        ∙ ap (λ (cells : List ℕ). shownOf command image i wide (withCells cells s)) p
+    word-carried none {cells′} p m h x w q =
+        ap (λ (answer : Answer). outcome answer (withCells cells′ s)) (q ∙ rw (w, h, x, m) refl)
+        ∙ ap (λ (cells : List ℕ). shownOf command image i wide (newAfter command wide marks (s .cells)) (withCells cells s)) p
         ∙ past-all (refusing Refused s) done tests none
         ∙ found-tells e

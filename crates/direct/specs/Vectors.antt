@@ -12,7 +12,7 @@ use Rattle.context.specs.State.{State, state, Outcome, outcome}
 use Rattle.map.specs.Map.{headerGood, fillerGood, entryGood, placeGood, mapGood}
 use Rattle.map.specs.Image.{image, entry}
 use Rattle.map.specs.Vectors.{two}
-use Rattle.fuse.specs.Fuse.{burnCell, burnWord}
+use Rattle.fuse.specs.Fuse.{burnCell, burnWord, setFuses, newFuses}
 use Rattle.partition.specs.Partition.{marked}
 use Rattle.word.specs.Word.{wordIn, holdsAt, wordAt}
 use Rattle.drive.specs.Drive.{wholeArrays, markedAt}
@@ -20,13 +20,13 @@ use Rattle.cache.specs.Cache.{cacheOf, isAt}
 use Rattle.direct.specs.declared.Command.{Command}
 use Rattle.direct.specs.declared.Command.the-variants.{Read, Write, Zeroize}
 use Rattle.direct.specs.declared.Answer.{Answer}
-use Rattle.direct.specs.declared.Answer.the-variants.{Word, Done, Withheld, Refused}
-use Rattle.direct.specs.Direct.{forbidden, clears, changesSlot, cellsAfter, carriedOut, directOf}
+use Rattle.direct.specs.declared.Answer.the-variants.{Word, Burned, Done, Withheld, Refused}
+use Rattle.direct.specs.Direct.{forbidden, clears, changesSlot, cellsAfter, newAfter, carriedOut, directOf}
 
 -- a command, by computation: to unfold this is to unfold all that it computes with
 runs : (image marks : List ℕ) → Command → State → Outcome Answer State
 unfolding directOf mapGood wholeArrays every headerGood fillerGood entryGood placeGood allBelow u16At wordAt wordIn holdsAt firstFrom
-    forbidden markedAt marked onesIn clears changesSlot cacheOf isAt carriedOut cellsAfter burnWord burnCell
+    forbidden markedAt marked onesIn clears changesSlot cacheOf isAt carriedOut cellsAfter newAfter burnWord burnCell newFuses setFuses
 runs = directOf
 
 abbrev small : List ℕ
@@ -72,7 +72,7 @@ older-59 : on-older 0x1F (Zeroize 0) ≡ outcome Withheld (state (0xFFFF_FFFF �
 unfolding runs
 older-59 = refl
 
-older-narrow : on-older 0x1F (Zeroize 7) ≡ outcome (Word 0xFFFF_FFFF) (state (1 ∷ replicate 6 0 ++ (0xFFFF_FFE0 ∷ replicate 4 0)) no-key)
+older-narrow : on-older 0x1F (Zeroize 7) ≡ outcome (Burned 0xFFFF_FFFF 27) (state (1 ∷ replicate 6 0 ++ (0xFFFF_FFE0 ∷ replicate 4 0)) no-key)
 unfolding runs
 older-narrow = refl
 
@@ -82,13 +82,13 @@ unfolding runs
 write-secret = refl
 
 -- while a reply is awaited too: a direct command is no mailbox command
-write-awaiting : runs small (replicate 12 0) (Write 7 0x88) (state cells awaiting) ≡ outcome (Word 0x88) (state (1 ∷ replicate 6 0 ++ (0x88 ∷ replicate 4 0)) awaiting)
+write-awaiting : runs small (replicate 12 0) (Write 7 0x88) (state cells awaiting) ≡ outcome (Burned 0x88 2) (state (1 ∷ replicate 6 0 ++ (0x88 ∷ replicate 4 0)) awaiting)
 unfolding runs
 write-awaiting = refl
 
 write-open :
     runs small (replicate 7 0 ++ (1 ∷ replicate 4 0)) (Write 7 0x89) (state cells no-key)
-    ≡ outcome (Word 0x88) (state (1 ∷ replicate 6 0 ++ (0x88 ∷ replicate 4 0)) no-key)
+    ≡ outcome (Burned 0x88 2) (state (1 ∷ replicate 6 0 ++ (0x88 ∷ replicate 4 0)) no-key)
 unfolding runs
 write-open = refl
 
@@ -123,7 +123,7 @@ reads = refl
 -- one that does not. In the software partition: 8 for a value over 32 bits and for the digest, and no 10
 writes :
     map does (Write 2 0 ∷ Write 4 0 ∷ Write 0 2 ∷ Write 0 3 ∷ Write 6 0x1_0000_0000 ∷ Write 10 1 ∷ Write 6 3 ∷ [])
-    ≡ map refused (8 ∷ 8 ∷ 9 ∷ 10 ∷ 8 ∷ 8 ∷ []) ++ (outcome (Word 3) (state (1 ∷ 0 ∷ 5 ∷ 0 ∷ 0 ∷ 0 ∷ 3 ∷ replicate 5 0) one-key) ∷ [])
+    ≡ map refused (8 ∷ 8 ∷ 9 ∷ 10 ∷ 8 ∷ 8 ∷ []) ++ (outcome (Burned 3 2) (state (1 ∷ 0 ∷ 5 ∷ 0 ∷ 0 ∷ 0 ∷ 3 ∷ replicate 5 0) one-key) ∷ [])
 unfolding runs
 writes = refl
 
@@ -140,7 +140,7 @@ kept :
     ∷ runs (image 1 12 60 8 [] (entry 0 6 2 0)) (replicate 12 0) (Write 0 0) (state with-digest no-key)
     ∷ []
     ≡ outcome (Refused 8) (state one-fuse no-key)
-    ∷ outcome (Word 3) (state (3 ∷ 0 ∷ 5 ∷ replicate 9 0) no-key)
+    ∷ outcome (Burned 3 1) (state (3 ∷ 0 ∷ 5 ∷ replicate 9 0) no-key)
     ∷ outcome (Refused 8) (state with-digest no-key)
     ∷ []
 unfolding runs

@@ -18,7 +18,7 @@ ghost use lib.ListN.{length};
 ghost use Rattle.fuse.specs.Fuse.{cellsIn};
 ghost use Rattle.word.specs.Word.{wordAt};
 ghost use Rattle.context.specs.State.{state, outcome};
-ghost use Rattle.direct.specs.Direct.{wordOf, isData, onesAt, answerOf, foundBy, directOf};
+ghost use Rattle.direct.specs.Direct.{wordOf, isData, onesAt, toldWord, answerOf, foundBy, directOf};
 
 // A command and the word that it names, by its first cell in the whole array.
 pub enum Command {
@@ -27,9 +27,11 @@ pub enum Command {
     Zeroize { cell: u32 },
 }
 
-// What a command answers.
+// What a command answers. A word that was burned comes with the number of fuses newly set, but for a
+// secret partition.
 pub enum Answer {
     Word(u64),
+    Burned { word: u64, new: u32 },
     Done,
     Withheld,
     Refused(u32),
@@ -89,16 +91,19 @@ fn find(check: Check, image: &[u8], cell: u32) -> Found
     }
 }
 
-// What WRITE answers of its word as it now stands, which is not looked at in a secret partition. It
-// does not depend on the command's cell, its value and the bound.
-fn written(cells: &[u32], at: usize, wide: bool, x: Entry) -> Answer
+// What WRITE answers of its word as it now stands, and of the fuses that it newly set; neither is looked
+// at in a secret partition. It does not depend on the command's cell, its value and the bound.
+fn written(cells: &[u32], at: usize, wide: bool, x: Entry, new: u32) -> Answer
     requires { ⌜ at + cellsIn wide ≤ length (now cells) ⌝ }
-    ensures { λ r. ⌜ r ≡ answerOf (Command.Write 0 0) x wide 0 (wordOf wide at (now (cells .entry))) ⌝ }
+    ensures { λ r. ⌜ r ≡ answerOf (Command.Write 0 0) x wide 0 (wordOf wide at (now (cells .entry))) new ⌝ }
 {
     if map::is_secret(x) {
         return Answer::Done;
     }
-    Answer::Word(word_of(cells, at, wide))
+    Answer::Burned {
+        word: word_of(cells, at, wide),
+        new: new,
+    }
 }
 
 // All ones at a word's width.
@@ -111,18 +116,32 @@ fn ones_at(wide: bool) -> u64
     0xFFFF_FFFF
 }
 
-// What ZEROIZE answers of its word as it now stands, whatever the command's cell. It is withheld by
-// the word's own ones, also on the older guide, which shows all ones in its place.
-fn zeroized(word: u64, wide: bool, x: Entry, bound: u64) -> Answer
-    ensures { λ r. ⌜ r ≡ answerOf (Command.Zeroize 0) x wide bound word ⌝ }
+// The word that ZEROIZE tells: on the older guide all ones, whatever word stands there.
+fn told_word(word: u64, wide: bool, x: Entry) -> u64
+    ensures { λ r. ⌜ r ≡ toldWord x wide word ⌝ }
 {
-    if map::is_secret(x) & (fuse::ones(word) < bound) {
+    if map::is_on_older_guide(x) {
+        return ones_at(wide);
+    }
+    word
+}
+
+// What ZEROIZE answers of its word as it now stands, and of the fuses that it newly set, whatever the
+// command's cell. It is withheld by the word's own ones, also on the older guide.
+fn zeroized(word: u64, wide: bool, x: Entry, bound: u64, new: u32) -> Answer
+    ensures { λ r. ⌜ r ≡ answerOf (Command.Zeroize 0) x wide bound word new ⌝ }
+{
+    let told = told_word(word, wide, x);
+    if !map::is_secret(x) {
+        return Answer::Burned {
+            word: told,
+            new: new,
+        };
+    }
+    if fuse::is_short(word, bound) {
         return Answer::Withheld;
     }
-    if map::is_on_older_guide(x) {
-        return Answer::Word(ones_at(wide));
-    }
-    Answer::Word(word)
+    Answer::Word(told)
 }
 
 // READ of the word that starts at `cell`, which it answers. It is lent no context: whatever one there
@@ -182,8 +201,8 @@ pub fn write(
             if in_use {
                 return Answer::Refused(10);
             }
-            fuse::burn_word(cells, marks, cell as usize, wide, value);
-            written(cells, cell as usize, wide, x)
+            let new = fuse::burn_word(cells, marks, cell as usize, wide, value);
+            written(cells, cell as usize, wide, x, new)
         }
     }
 }
@@ -215,9 +234,9 @@ pub fn zeroize(
             if drive::is_slot_in_use(image, partition, context) {
                 return Answer::Refused(10);
             }
-            fuse::burn_word(cells, marks, at, wide, fuse::ALL_ONES);
+            let new = fuse::burn_word(cells, marks, at, wide, fuse::ALL_ONES);
             let word = word_of(cells, at, wide);
-            zeroized(word, wide, x, header.bound as u64)
+            zeroized(word, wide, x, header.bound as u64, new)
         }
     }
 }

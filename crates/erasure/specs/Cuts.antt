@@ -65,8 +65,8 @@ module _ (image cells : List ℕ) (i : ℕ) (whole : WholeDrive image cells) (l 
 
 -- the burns that an answer tells
 abbrev pub burnsIn : Answer → ℕ
-burnsIn (Ended short first burns) = burns
-burnsIn (Cut burns) = burns
+burnsIn (Ended short first burns new) = burns
+burnsIn (Cut burns new) = burns
 burnsIn (Refused number burns) = burns
 
 burns-in : (image : List ℕ) (i : ℕ) (t : Tally) (end : End) → burnsIn (answerBy end image i t) ≡ t .burns
@@ -126,8 +126,8 @@ erasure-uncut image marks i s =
 -- "the number of burns carried out, equal to the number that this order reaches"; "the burns carried out, k + 1"; "one burn is reported"
 -- for 15, and none for any other refusal
 abbrev pub BurnsTold : (image : List ℕ) (i k : ℕ) → Answer → Type 0
-BurnsTold image i k (Ended short first burns) = burns ≡ length (order (software (entryOf image i)) (entryOf image i .n))
-BurnsTold image i k (Cut burns) = burns ≡ k + 1
+BurnsTold image i k (Ended short first burns new) = burns ≡ length (order (software (entryOf image i)) (entryOf image i .n))
+BurnsTold image i k (Cut burns new) = burns ≡ k + 1
 BurnsTold image i k (Refused number burns) = burns ≡ cond (eqb number 15) 1 0
 
 run-tells : (image cells marks : List ℕ) (i k mask : ℕ) → WholeDrive image cells → (l : i < headerOf image .partitions) → (end : End)

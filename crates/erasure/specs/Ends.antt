@@ -148,8 +148,8 @@ module _ (image cells marks : List ℕ) (i k mask : ℕ) (whole : WholeDrive ima
 -- ---- what an answer says of the partition: one that ended tells its short pairs and the first, any other nothing
 
 abbrev pub LeftAs : (image : List ℕ) (i : ℕ) → Answer → (cells : List ℕ) → Type 0
-LeftAs image i (Ended short first burns) cells = LeftBy (indicatorCell image i) short first (surveyAt image cells i)
-LeftAs image i (Cut burns) cells = Unit {0}
+LeftAs image i (Ended short first burns new) cells = LeftBy (indicatorCell image i) short first (surveyAt image cells i)
+LeftAs image i (Cut burns new) cells = Unit {0}
 LeftAs image i (Refused number burns) cells = Unit {0}
 
 -- of a run on a drive that was judged, as FERS makes it

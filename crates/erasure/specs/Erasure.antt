@@ -1,4 +1,4 @@
--- Document 01, "Erasing a partition": the refusals of an erasure, the run over a partition of a drive, and what is answered and left.
+-- Document 01, "Erasing a partition", with request P8: the refusals of an erasure, the run over a partition of a drive, and what is answered and left.
 -- Assumes nothing.
 use Prim.Native.Nat.{ℕ, _+_, _-_, _^_, _<_}
 use mathlib.Core.Path.{_≡_}
@@ -57,7 +57,7 @@ putPart image cells i part = take (entryOf image i .first) cells ++ (part ++ dro
 
 -- a run over partition i's cells, with the cells of the whole array
 abbrev pub inWhole : (image cells : List ℕ) (i : ℕ) → Ran → Ran
-inWhole image cells i r = ran (r .end) (tallyOf (putPart image cells i (r .tally .cells)) (r .tally .burns))
+inWhole image cells i r = ran (r .end) (tallyOf (putPart image cells i (r .tally .cells)) (r .tally .burns) (r .tally .new))
 
 -- "Uncut and cut erasures, FERS among them, are one run": the run over partition i, cut at burn k
 unfoldable pub runOn : (image cells marks : List ℕ) (i k mask : ℕ) → Ran
@@ -75,13 +75,20 @@ firstShort first (Cell k) = first + k
 firstShort first Nothing = 0xFFFF_FFFF
 
 -- "the number of short pairs of the partition and the first cell of the lowest one .. and the number of burns carried out"; refusal 15;
--- a cut one "answers only that it was cut and the burns carried out"
+-- a cut one "answers only that it was cut and the burns carried out". Request P8, of the fuses that the burns newly set: "erasures add it up,
+-- cut ones included"; "15 reports 0, as its burn sets nothing" (`toldNew`)
 abbrev pub answerBy : End → (image : List ℕ) (i : ℕ) → Tally → Answer
 answerBy Whole image i t =
     let part : List ℕ = cellsOf image (t .cells) i in
-    Ended (shortPairs (headerOf image .bound) part) (firstShort (entryOf image i .first) (lowestShort (headerOf image .bound) part)) (t .burns)
+    Ended (shortPairs (headerOf image .bound) part) (firstShort (entryOf image i .first) (lowestShort (headerOf image .bound) part)) (t .burns) (t .new)
 answerBy Stopped image i t = Refused 15 (t .burns)
-answerBy CutEnd image i t = Cut (t .burns)
+answerBy CutEnd image i t = Cut (t .burns) (t .new)
+
+-- the fuses newly set that an answer reports; a refusal reports 0
+abbrev pub toldNew : Answer → ℕ
+toldNew (Ended short first burns new) = new
+toldNew (Cut burns new) = new
+toldNew (Refused number burns) = 0
 
 -- what a run answers, and the cells that it leaves
 abbrev pub ranOf : (image : List ℕ) (i : ℕ) → Ran → Outcome Answer (List ℕ)
@@ -111,8 +118,8 @@ erasureOf image marks i s = eraseOf image marks i never 0 s
 
 -- the power failed
 abbrev pub isCut : Answer → Bool
-isCut (Ended short first burns) = false
-isCut (Cut burns) = true
+isCut (Ended short first burns new) = false
+isCut (Cut burns new) = true
 isCut (Refused number burns) = false
 
 -- of a cut erasure: "nothing follows and the key cache is empty", and by request P5 no reply is awaited; where it ends before burn k, or

@@ -79,13 +79,14 @@ module _ (image cells marks : List ℕ) (i : ℕ) (ok : Erasable image cells mar
   abbrev partBy : (array : List ℕ) → List ℕ
   partBy array = take (x .first + x .n - x .first) (drop (x .first) array)
 
-  pub fits-run : (4 ≤ length (partBy cells)) × (length (partBy cells) % 2 ≡ 0) × (length (partBy marks) ≡ length (partBy cells))
+  pub fits-run : (4 ≤ length (partBy cells)) × (length (partBy cells) % 2 ≡ 0) × (length (partBy cells) ≤ 2048) × (length (partBy marks) ≡ length (partBy cells))
   fits-run =
       let rules = map-entry image (ok .whole .good) i (ok .partition) in
       let marks-whole : WholeDrive image marks = record { good = ok .whole .good; long = ok .marks-long ∙ ok .whole .long } in
       let long = part-long image cells i (ok .whole) (ok .partition) in
       let same = part-long image marks i marks-whole (ok .partition) in
-      rw (part-is image cells i x e, part-is image marks i x e, long, same) (rules .n-least, rules .n-even, refl)
+      let most : entryOf image i .n ≤ 2048 = omega (arith, long, part-small image cells i (ok .whole) (ok .partition)) in
+      rw (part-is image cells i x e, part-is image marks i x e, long, same) (rules .n-least, rules .n-even, most, refl)
 
   pub burns-fit : {burns : ℕ} → burns ≤ length (partBy cells) → burns ≤ 2048
   burns-fit l = omega (arith, rw (part-is image cells i x e) at l, part-small image cells i (ok .whole) (ok .partition))
@@ -102,11 +103,11 @@ module _ (image cells marks : List ℕ) (i : ℕ) (ok : Erasable image cells mar
 
 -- ---- the answer, at the values that were read
 
-pub ended-is : (image cells : List ℕ) (i burns : ℕ) {header : Header} {x : Entry} {part : List ℕ} {shorts : Shorts} {first : ℕ} → header ≡ headerOf image
+pub ended-is : (image cells : List ℕ) (i burns new : ℕ) {header : Header} {x : Entry} {part : List ℕ} {shorts : Shorts} {first : ℕ} → header ≡ headerOf image
     → x ≡ entryOf image i → part ≡ cellsOf image cells i
     → shorts ≡ shortsOf (header .bound) part → first ≡ firstShort (x .first) (shorts .lowest)
-    → Ended (shorts .count) first burns ≡ answerBy Whole image i (tallyOf cells burns)
-ended-is image cells i burns h e p q f = rw (f, q, p, h, e)
+    → Ended (shorts .count) first burns new ≡ answerBy Whole image i (tallyOf cells burns new)
+ended-is image cells i burns new h e p q f = rw (f, q, p, h, e)
 
 -- how a run ended, as the code tells it
 pub ended : (image : List ℕ) (i : ℕ) (t : Tally) {end told : End} {answer : Answer} → end ≡ told → answer ≡ answerBy told image i t → answer ≡ answerBy end image i t
@@ -114,7 +115,7 @@ ended image i t e q = q ∙ ap (λ (x : End). answerBy x image i t) (sym e)
 
 -- what a run leaves, by what is reported of it
 pub run-left : (image : List ℕ) (i : ℕ) {r : Ran} {report : Report} {cells : List ℕ} {answer : Answer} → ranAs report cells ≡ r
-    → answer ≡ answerBy (report .end) image i (tallyOf cells (report .burns)) → outcome answer cells ≡ ranOf image i r
+    → answer ≡ answerBy (report .end) image i (tallyOf cells (report .burns) (report .new)) → outcome answer cells ≡ ranOf image i r
 run-left image i {cells = cells} e q = ap (λ (answer : Answer). outcome answer cells) q ∙ ap (ranOf image i) e
 
 -- ---- an erasure, by the number that its judging gives

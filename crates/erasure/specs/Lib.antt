@@ -3,4 +3,5 @@ pub mod Laws
 pub mod Parts
 pub mod Cuts
 pub mod Ends
+pub mod Charge
 pub mod Vectors

@@ -10,7 +10,7 @@ use Rattle.laws.specs.Below.{allBelow, countBelow, firstFrom}
 use Rattle.endian.specs.Endian.{u16At}
 use Rattle.map.specs.Map.{headerGood, fillerGood, entryGood, placeGood, mapGood}
 use Rattle.map.specs.Image.{image, entry}
-use Rattle.fuse.specs.Fuse.{burnCell, burnWord}
+use Rattle.fuse.specs.Fuse.{burnCell, burnWord, setFuses, newFuses}
 use Rattle.partition.specs.Partition.{shortAt, marked, lowestShort}
 use Rattle.burns.specs.Run.{wordsFrom, order, goesOn, stopsAfter, burnsOf}
 use Rattle.context.specs.State.{state, outcome}
@@ -50,19 +50,19 @@ erasures :
     ∷ erasureOf drive (marks 0 0xFFFF_FFFE all) 1 (state start waits)
     ∷ erasureOf drive (marks 0 all all) 1 (state start waits)
     ∷ []
-    ≡ outcome (Ended 1 6 4) (state (cells all 0xFFFF_FFE0 all all all all) waits)
-    ∷ outcome (Ended 1 10 4) (state (cells all all all all 1 0) waits)
+    ≡ outcome (Ended 1 6 4 185) (state (cells all 0xFFFF_FFE0 all all all all) waits)
+    ∷ outcome (Ended 1 10 4 127) (state (cells all all all all 1 0) waits)
     ∷ outcome (Refused 15 1) (state start waits)
     ∷ []
-unfolding eraseOf mapGood wholeArrays every headerGood fillerGood entryGood placeGood allBelow u16At runOn burnsOf order wordsFrom burnWord burnCell stopsAfter
+unfolding eraseOf mapGood wholeArrays every headerGood fillerGood entryGood placeGood allBelow u16At runOn burnsOf order wordsFrom burnWord burnCell newFuses setFuses stopsAfter
     goesOn marked shortAt countBelow lowestShort firstFrom onesIn cacheOf isAt
 erasures = refl
 
 -- cut at the second data word, burn 2: the mask's low 32 bits go into it, three burns; a cut at burn 4, past the order, is none, and
 -- leaves the cache
 cuts : cutErasureOf drive (marks 0 0 0) 1 2 0x3_0000_0005 (state start waits) ∷ cutErasureOf drive (marks 0 0 0) 1 4 0 (state start waits) ∷ []
-    ≡ outcome (Cut 3) (state (cells all 5 0 0 all all) none) ∷ outcome (Ended 0 0xFFFF_FFFF 4) (state (cells all all all all all all) waits) ∷ []
-unfolding eraseOf mapGood wholeArrays every headerGood fillerGood entryGood placeGood allBelow u16At runOn burnsOf order wordsFrom burnWord burnCell stopsAfter
+    ≡ outcome (Cut 3 96) (state (cells all 5 0 0 all all) none) ∷ outcome (Ended 0 0xFFFF_FFFF 4 190) (state (cells all all all all all all) waits) ∷ []
+unfolding eraseOf mapGood wholeArrays every headerGood fillerGood entryGood placeGood allBelow u16At runOn burnsOf order wordsFrom burnWord burnCell newFuses setFuses stopsAfter
     goesOn marked shortAt countBelow lowestShort firstFrom onesIn cacheOf isAt emptied
 cuts = refl
 

@@ -3,8 +3,8 @@
 // the array, cut or not. `erase`, `erase_cut` and `restart` are the entry points: they answer for any
 // bytes and any lengths. `erase_judged` serves FERS too. The definitions are in `specs/Erasure`, the laws
 // in `specs/Laws`, what a run leaves of the whole array in `specs/Parts`, what holds of cuts in
-// `specs/Cuts`, what an answer says of the partition in `specs/Ends`. It rests on `burns`, `drive`, `cache`,
-// `context` and what lies below them.
+// `specs/Cuts`, what an answer says of the partition in `specs/Ends`, and of the fuses newly set in
+// `specs/Charge`. It rests on `burns`, `drive`, `cache`, `context` and what lies below them.
 use burns::End;
 use burns::Report;
 use context::Context;
@@ -21,13 +21,25 @@ ghost use Rattle.context.specs.State.{state, outcome};
 ghost use Rattle.erasure.specs.Erasure.{partitionTests, Erasable, runOn, firstShort, answerBy, ranOf, refusalBy, isCut, uncutOf, erasureOf, cutErasureOf};
 
 // What an erasure answers: that it ended, its short pairs, the first cell of the lowest one (0xFFFFFFFF
-// if none) and the burns carried out; the partition is then erased exactly if no pair is short or the
-// first short cell is the indicator's, else torn. Or that it was cut, and the burns carried out. Or the
-// refusal's number, and the burns carried out, none but the indicator's of refusal 15, which set nothing.
+// if none), the burns carried out and the fuses that they have newly set; the partition is then erased
+// exactly if no pair is short or the first short cell is the indicator's, else torn. Or that it was cut,
+// the burns and the fuses newly set. Or the refusal's number, and the burns carried out, none but the
+// indicator's of refusal 15; no fuse was set.
 pub enum Answer {
-    Ended { short: u32, first: u32, burns: u32 },
-    Cut { burns: u32 },
-    Refused { number: u32, burns: u32 },
+    Ended {
+        short: u32,
+        first: u32,
+        burns: u32,
+        new: u32,
+    },
+    Cut {
+        burns: u32,
+        new: u32,
+    },
+    Refused {
+        number: u32,
+        burns: u32,
+    },
 }
 
 // The burn that an erasure which is not cut would be cut at: no order reaches it.
@@ -85,11 +97,12 @@ fn first_short(first: u16, lowest: Lowest) -> u32
 // looked at: so the compiled code keeps less on the stack.
 fn answer_of(image: &[u8], cells: &[u32], i: u32, report: Report) -> Answer
     requires { ⌜ Whole (now image) (now cells) × (i < headerOf (now image) .partitions) × (report .burns ≤ 2048) ⌝ }
-    ensures { λ r. ⌜ r ≡ answerBy (report .end) (now (image .entry)) i (tallyOf (now (cells .entry)) (report .burns)) ⌝ }
+    ensures { λ r. ⌜ r ≡ answerBy (report .end) (now (image .entry)) i (tallyOf (now (cells .entry)) (report .burns) (report .new)) ⌝ }
 {
     let x = map::read_entry(image, i);
     let part = drive::part_of(image, cells, i);
     let burns = report.burns as u32;
+    let new = report.new;
     let end = report.end;
     match end {
         End::Whole => {
@@ -100,13 +113,17 @@ fn answer_of(image: &[u8], cells: &[u32], i: u32, report: Report) -> Answer
                 short: shorts.count as u32,
                 first: first_short(x.first, lowest),
                 burns: burns,
+                new: new,
             }
         }
         End::Stopped => Answer::Refused {
             number: 15,
             burns: burns,
         },
-        End::Cut => Answer::Cut { burns: burns },
+        End::Cut => Answer::Cut {
+            burns: burns,
+            new: new,
+        },
     }
 }
 
@@ -169,8 +186,9 @@ fn is_cut(answer: Answer) -> bool
             short: _,
             first: _,
             burns: _,
+            new: _,
         } => false,
-        Answer::Cut { burns: _ } => true,
+        Answer::Cut { burns: _, new: _ } => true,
         Answer::Refused {
             number: _,
             burns: _,

@@ -7,7 +7,7 @@
 --     burn-apart  it touches its word alone
 --     fits        a cell stays a cell of 32 fuses
 --     ones-*, no-ones   how many are set: the language's count, at most 64, none of 0 alone, monotone; so a pair only ever stops being short
-use Prim.Native.Nat.{ℕ, _+_, _-_, _/_, _%_, _^_, _≤_, _<_}
+use Prim.Native.Nat.{ℕ, _+_, _-_, _^_, _≤_, _<_}
 use mathlib.Core.Path.{_≡_, refl, sym, ap, _∙_}
 use mathlib.Core.Bool.{Bool, true, false}
 use mathlib.Core.List.{List}
@@ -61,12 +61,6 @@ module _ (stuck : ℕ) where
   absorbs {s} {c} p q =
       burn-all c ∙ sub-antisym (or-lub q (sub-or-r s (free stuck))) (or-mono p (sub-refl (free stuck))) ∙ sym (burn-all s)
 
--- a burn of a pair is the burn of its low cell and then of its high cell
-pub burn-pair : (marks : List ℕ) (k v : ℕ) (cells : List ℕ) {mid after : List ℕ} → mid ≡ burnCell marks k (v % 2 ^ 32) cells
-    → after ≡ burnCell marks (k + 1) (v / 2 ^ 32) mid → after ≡ burnWord marks k true v cells
-unfolding burnWord
-burn-pair marks k v cells p q = q ∙ ap (burnCell marks (k + 1) (v / 2 ^ 32)) p
-
 -- ---- a burn touches its word alone: the n cells from f on stay where the word ends before them or starts past them
 
 module _ (f n : ℕ) where
@@ -83,11 +77,6 @@ module _ (f n : ℕ) where
   burn-apart marks k true v cells (inr h) = set-apart _ (k + 1) _ (inr (omega arith)) ∙ set-apart cells k _ (inr h)
   burn-apart marks k false v cells (inl h) = set-apart cells k _ (inl (omega arith))
   burn-apart marks k false v cells (inr h) = set-apart cells k _ (inr h)
-
--- a word has at least one cell
-pub cells-least : (wide : Bool) → 1 ≤ cellsIn wide
-cells-least true = omega arith
-cells-least false = omega arith
 
 pub ones-counted : {n : ℕ} → n < 2 ^ 64 → onesOf n ≡ ones n
 ones-counted {n} h = counted 64 n h

@@ -1,8 +1,8 @@
--- Document 01, "Burning and counting", at one cell, one pair and one word. Assumes nothing.
+-- Document 01, "Burning and counting", with request P8, at one cell, one pair and one word. Assumes nothing.
 use Prim.Native.Nat.{ℕ, _+_, _-_, _*_, _/_, _%_, _^_}
 use mathlib.Core.Bool.{Bool, true, false}
-use mathlib.Core.List.{List}
-use lib.ListN.{getD, set}
+use mathlib.Core.List.{List, [], _∷_}
+use lib.ListN.{getD, set, take, drop}
 use lib.Bits.{bitAnd, bitOr}
 use lib.Count.{onesIn}
 use lib.Dec.{ltb}
@@ -48,3 +48,18 @@ allOnes = 2 ^ 64 - 1
 unfoldable pub burnWord : (marks : List ℕ) (k : ℕ) (wide : Bool) (v : ℕ) (cells : List ℕ) → List ℕ
 burnWord marks k true v cells = burnCell marks (k + 1) (v / 2 ^ 32) (burnCell marks k (v % 2 ^ 32) cells)
 burnWord marks k false v cells = burnCell marks k (v % 2 ^ 32) cells
+
+-- ---- request P8, "Charge drawn by burning"
+
+-- how many fuses of these cells are set
+unfoldable pub setFuses : (cells : List ℕ) → ℕ
+setFuses [] = 0
+setFuses (cell ∷ cells) = onesIn 32 cell + setFuses cells
+
+-- the cells of the word that starts at k
+abbrev pub wordCells : (wide : Bool) (k : ℕ) (cells : List ℕ) → List ℕ
+wordCells wide k cells = take (cellsIn wide) (drop k cells)
+
+-- "every burn reports the number of fuses it newly set": those of its word that are set after it, less those that were set before
+unfoldable pub newFuses : (marks : List ℕ) (k : ℕ) (wide : Bool) (v : ℕ) (cells : List ℕ) → ℕ
+newFuses marks k wide v cells = setFuses (wordCells wide k (burnWord marks k wide v cells)) - setFuses (wordCells wide k cells)

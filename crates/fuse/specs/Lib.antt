@@ -1,3 +1,4 @@
 pub mod Fuse
 pub mod Burn
+pub mod Charge
 pub mod Vectors

@@ -19,6 +19,7 @@ use Rattle.burns.specs.declared.End.{End}
 use Rattle.burns.specs.declared.End.the-variants.{Whole, Stopped, Cut as CutEnd}
 use Rattle.burns.specs.Run.{Tally}
 use Rattle.erasure.specs.declared.Answer.{Answer}
+use Rattle.erasure.specs.declared.Answer.the-variants.{Ended, Cut, Refused as NotErased}
 use Rattle.erasure.specs.Erasure.{never, runOn, answerBy, unburned, eraseTests, burning, eraseOf, uncutOf, isCut}
 use Rattle.erasure.specs.Cuts.{uncut-judged}
 use Rattle.codec.specs.declared.Command.the-variants.{Fers}
@@ -30,7 +31,7 @@ use Rattle.mailbox.specs.declared.Reply.the-variants.{Refused, Accepted as Acce
 use Rattle.mailbox.specs.Laws.{fers-context}
 use Rattle.mailbox.specs.Mailbox.{refused, fersOf, partitionIn, accepted, mailboxTests, doneOf, contextAfter, responseAfter, replyOf, Lent, lent, writtenOut}
 use Rattle.history.specs.Calls.{Call, Direct, Erase, EraseCut, Mailbox, TakeReply, MakeTable, Restart, Told, Replying, lengthIn, replying, told, refusal, after}
-use Rattle.history.specs.Demand3.{Attempt, withBuffers, SameLengths}
+use Rattle.history.specs.Demand3.{Attempt, withBuffers, SameLengths, numberless, compared}
 use Rattle.history.specs.Kept.{erase-leaves, emptied-table}
 use Rattle.history.specs.Forms.{Does, Quiet, quiet, arrays-same, places-same, busy-same, table-same, Ready, whole-at, Form, refuses, runs, erase-form, cut-uncut}
 
@@ -56,6 +57,12 @@ fers-late : (image : List ℕ) (i : ℕ) (t : Tally) (end : End) → refusal (ef
 fers-late image i t Whole l m = omega arith
 fers-late image i t Stopped l m = omega arith
 fers-late image i t CutEnd l m = omega arith
+
+-- its number is not compared
+fers-compared : (answer : Answer) → compared (effectTells (fersOf answer)) ≡ compared (effectTells (fersOf (numberless answer)))
+fers-compared (Ended short first burns new) = refl
+fers-compared (Cut burns new) = refl
+fers-compared (NotErased number burns) = refl
 
 refused-tells : (n : ℕ) → eqb n 0 ≡ false → (l : Lent) (request cells : List ℕ) → replying (writtenOut request l (outcome (refused n) cells)) .told ≡ Replying (Refused n) []
 refused-tells n o l request cells = rw o
@@ -126,7 +133,7 @@ module _ (image marks : List ℕ) (start : State) (request response block : List
       let none = none-accepts (λ n. n) 0 fersTests o .none in
       let ready : Ready image marks p start = record { good = not-false _ (none 0); arrays = not-false _ (none 1); partition = leb-false _ _ (none 7); may = not-false _ (none 8) } in
       subst (λ (j : ℕ). Form image marks j start call) (fers-named i s q o a)
-      (runs never 0 (λ answer. effectTells (fersOf answer)) ready (λ t. refl) (λ s q u e. uncut-judged image (s .cells) p (whole-at image marks p start ready s q) (ready .partition) marks 0 e)
+      (runs never 0 (λ answer. effectTells (fersOf answer)) ready fers-compared (λ t. refl) (λ s q u e. uncut-judged image (s .cells) p (whole-at image marks p start ready s q) (ready .partition) marks 0 e)
       (λ s q response′ block′ l. fers-runs s q response′ block′ l o)))
       (decided (anyApplies fersTests))
 

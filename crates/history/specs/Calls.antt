@@ -12,7 +12,7 @@ use Rattle.handles.specs.declared.Answer.the-variants.{Made, Refused as NotMade
 use Rattle.handles.specs.Making.{makingOf}
 use Rattle.direct.specs.declared.Command.{Command}
 use Rattle.direct.specs.declared.Answer.{Answer}
-use Rattle.direct.specs.declared.Answer.the-variants.{Word, Done, Withheld, Refused as RefusedDirect}
+use Rattle.direct.specs.declared.Answer.the-variants.{Word, Burned, Done, Withheld, Refused as RefusedDirect}
 use Rattle.direct.specs.Direct.{directOf}
 use Rattle.erasure.specs.declared.Answer.{Answer as Erasure}
 use Rattle.erasure.specs.declared.Answer.the-variants.{Ended, Cut, Refused as RefusedErasure}
@@ -85,11 +85,12 @@ after image marks call s = outcomeOf image marks call s .after
 -- the refusal's number, 0 where the call was not refused
 abbrev pub refusal : Told → ℕ
 refusal (Answering (Word word)) = 0
+refusal (Answering (Burned word new)) = 0
 refusal (Answering Done) = 0
 refusal (Answering Withheld) = 0
 refusal (Answering (RefusedDirect number)) = number
-refusal (Erasing (Ended short first burns)) = 0
-refusal (Erasing (Cut burns)) = 0
+refusal (Erasing (Ended short first burns new)) = 0
+refusal (Erasing (Cut burns new)) = 0
 refusal (Erasing (RefusedErasure number burns)) = number
 refusal (Replying (Refused number) response) = number
 refusal (Replying (Accepted length order) response) = 0

@@ -3,8 +3,8 @@
 use Prim.Native.Nat.{ℕ, _+_, _≤_, _<_}
 use mathlib.Core.Path.{_≡_}
 use mathlib.Core.Logic.{_⊎_}
-use mathlib.Core.Bool.{true, false}
-use mathlib.Core.List.{List, [], _∷_}
+use mathlib.Core.Bool.{true, false, cond}
+use mathlib.Core.List.{List, [], _∷_, map}
 use lib.ListN.{length, getD}
 use lib.Bits.{bitOr}
 use Rattle.laws.specs.Bits.{_⊆_}
@@ -15,11 +15,14 @@ use Rattle.burns.specs.Run.{order}
 use Rattle.drive.specs.Drive.{wholeArrays, markedAt}
 use Rattle.cache.specs.Cache.{cacheOf, AtRest}
 use Rattle.handles.specs.Handles.{tableOf}
+use Rattle.erasure.specs.declared.Answer.{Answer as Erasure}
+use Rattle.erasure.specs.declared.Answer.the-variants.{Ended, Cut, Refused as RefusedErasure}
 use Rattle.erasure.specs.Parts.{Outside}
 use Rattle.codec.specs.declared.Command.the-variants.{Fers}
-use Rattle.codec.specs.Fields.{codeOf}
+use Rattle.codec.specs.Fields.{codeOf, Field, Chksum, New-fuses, same, responseFields, noNumbers, bytesAt, joined}
 use Rattle.mailbox.specs.Mailbox.{partitionIn}
-use Rattle.history.specs.Calls.{Call, Direct, Erase, EraseCut, Mailbox, TakeReply, MakeTable, Restart, told, refusal, after, afterAll}
+use Rattle.history.specs.Calls.{Call, Direct, Erase, EraseCut, Mailbox, TakeReply, MakeTable, Restart}
+use Rattle.history.specs.Calls.{Told, Answering, Erasing, Replying, Taking, Making, Silent, told, refusal, after, afterAll}
 
 -- ---- attempts and histories
 
@@ -102,6 +105,34 @@ callAlone call a = withBuffers call (a .response) (a .block)
 abbrev pub startAlone : (start : State) {call : Call} → Alone start call → State
 startAlone start a = withContext (a .context) start
 
+-- ---- what of an answer is compared; request P8: "Demand 3's answers and responses now leave out this number and the chksum"
+
+-- of an erasure's answer all but the fuses newly set
+abbrev pub numberless : Erasure → Erasure
+numberless (Ended short first burns new) = Ended short first burns 0
+numberless (Cut burns new) = Cut burns 0
+numberless (RefusedErasure number burns) = RefusedErasure number burns
+
+-- the fields but one
+abbrev pub without : Field → List Field → List Field
+without field [] = []
+without field (f ∷ fields) = cond (same field f) (without field fields) (f ∷ without field fields)
+
+-- of FERS's response all fields but these two; a refusal has none
+abbrev pub comparedBytes : (response : List ℕ) → List ℕ
+comparedBytes response =
+    let fields : List Field = responseFields Fers noNumbers in
+    joined (map (λ (field : Field). bytesAt fields field response) (without Chksum (without New-fuses fields)))
+
+-- of what an attempt tells, as an erasure or as FERS; any other call's is compared whole
+abbrev pub compared : Told → Told
+compared (Answering answer) = Answering answer
+compared (Erasing answer) = Erasing (numberless answer)
+compared (Replying reply response) = Replying reply (comparedBytes response)
+compared (Taking answer) = Taking answer
+compared (Making answer) = Making answer
+compared Silent = Silent
+
 -- ---- the claim
 
 -- cell j is one of partition i; it is one of its indicator, the last two of a zeroizable partition
@@ -132,9 +163,9 @@ pub record Claim (image marks : List ℕ) (i : ℕ) (start : State) (calls : Lis
   -- not stuck"
   pub exactly : Finished image marks i calls start → (j : ℕ) → InPartition image i j → getD (now .cells) j 0 ≡ bitOr (getD (start .cells) j 0) (free (getD marks j 0))
   -- "The answer and the response of every uncut attempt, refused or not, are those of the same attempt made first, from the starting
-  -- fuses"
+  -- fuses", as far as they are compared
   pub same-answer : (call : Call) → Attempt image marks i call now → Uncut image marks call now → (alone : Alone start call)
-      → told image marks (callAlone call alone) (startAlone start alone) ≡ told image marks call now
+      → compared (told image marks (callAlone call alone) (startAlone start alone)) ≡ compared (told image marks call now)
   -- "where that attempt is accepted or refused with 15, all cells are equal too"
   pub same-cells : (call : Call) → Attempt image marks i call now → Uncut image marks call now
       → (refusal (told image marks call now) ≡ 0) ⊎ (refusal (told image marks call now) ≡ 15) → (alone : Alone start call)

@@ -20,12 +20,12 @@ use Rattle.burns.specs.declared.End.{End}
 use Rattle.burns.specs.declared.End.the-variants.{Stopped, Cut as CutEnd}
 use Rattle.burns.specs.Run.{Tally, Ran}
 use Rattle.erasure.specs.declared.Answer.{Answer}
-use Rattle.erasure.specs.declared.Answer.the-variants.{Refused as RefusedErasure}
+use Rattle.erasure.specs.declared.Answer.the-variants.{Ended, Cut, Refused as RefusedErasure}
 use Rattle.erasure.specs.Erasure.{runOn, answerBy, ranOf, unburned, eraseTests, burning, eraseOf}
 use Rattle.erasure.specs.Cuts.{past-order, whole-by}
 use Rattle.history.specs.Calls.{occupied, Call, Direct, Erase, EraseCut, Mailbox, TakeReply, MakeTable, Restart, Told, Erasing, told, refusal, after}
 use Rattle.history.specs.Kept.{emptied-table}
-use Rattle.history.specs.Demand3.{Uncut, withBuffers, SameLengths}
+use Rattle.history.specs.Demand3.{Uncut, withBuffers, SameLengths, numberless, compared}
 
 -- a call as it was lent: with its own buffers
 record Own (call : Call) : Type 0 where
@@ -103,14 +103,19 @@ module _ (image marks : List ℕ) (i : ℕ) (start : State) where
     refuses : (t : Told) → 1 ≤ refusal t → (refusal t ≡ 15 → ⊥)
         → ((s : State) → Quiet start s → DoesAll image marks call s t (s .cells))
         → Form call
-    -- it is a run, tells what the run answers, and is cut only if the call is
-    runs : (k mask : ℕ) (tell : Answer → Told) → Ready
+    -- it is a run, tells what the run answers, of which the number is not compared, and is cut only if the call is
+    runs : (k mask : ℕ) (tell : Answer → Told) → Ready → ((answer : Answer) → compared (tell answer) ≡ compared (tell (numberless answer)))
         → ((t : Tally) → refusal (tell (answerBy Stopped image i t)) ≡ 15)
         → ((s : State) → Quiet start s → Uncut image marks call s → runFrom k mask s .end ≡ CutEnd → ⊥)
         → ((s : State) → Quiet start s → DoesAll image marks call s (tell (ranOf image i (runFrom k mask s) .told)) (runFrom k mask s .tally .cells))
         → Form call
 
   -- ---- the erasure and the cut erasure
+
+  erased-compared : (answer : Answer) → compared (Erasing answer) ≡ compared (Erasing (numberless answer))
+  erased-compared (Ended short first burns new) = refl
+  erased-compared (Cut burns new) = refl
+  erased-compared (RefusedErasure number burns) = refl
 
   module _ (k mask : ℕ) where
     abbrev erasing : State → Outcome Answer State
@@ -146,7 +151,7 @@ module _ (image marks : List ℕ) (i : ℕ) (start : State) where
         = λ s q response block l.
         (let e : erasing s ≡ burning image marks i k mask s = by-tests s q ∙ none-accepts (refusing unburned s) (burning image marks i k mask s) startTests o .is in
         (is s response block .0 ∙ ap (λ (o : Outcome Answer State). Erasing (o .told)) e, is s response block .1 ∙ ap (λ (o : Outcome Answer State). o .after .cells) e)) in
-        runs k mask Erasing ready (λ t. refl) (λ s q u. uncut ready s q (as-lent image marks call s (did s q) .0) u) did)
+        runs k mask Erasing ready erased-compared (λ t. refl) (λ s q u. uncut ready s q (as-lent image marks call s (did s q) .0) u) did)
         (decided (anyApplies startTests))
 
 -- a cut erasure that is uncut is not cut: what is refused was not cut, and no run is cut past its order

@@ -7,15 +7,16 @@ use mathlib.Core.List.{List}
 use Rattle.context.specs.State.{State}
 use Rattle.direct.specs.declared.Command.the-variants.{Read, Write, Zeroize}
 use Rattle.direct.specs.declared.Answer.{Answer}
-use Rattle.direct.specs.declared.Answer.the-variants.{Word as Shown, Done, Withheld, Refused}
+use Rattle.direct.specs.declared.Answer.the-variants.{Word as Shown, Burned, Done, Withheld, Refused}
 use Rattle.direct.specs.Direct.{directOf}
 use Rattle.drive.specs.Drive.{surveyAt, activeSlot}
 use Rattle.mailbox.specs.Mailbox.{Lent, mailboxOf}
 use Rattle.history.specs.Calls.{Call, Direct, Erase, EraseCut, Mailbox, TakeReply, MakeTable, Restart, told, after, afterAll}
 
--- an answer with its word left out
+-- an answer with its word left out; the fuses newly set stay (request P8)
 abbrev pub wordless : Answer → Answer
 wordless (Shown word) = Shown 0
+wordless (Burned word new) = Burned 0 new
 wordless Done = Done
 wordless Withheld = Withheld
 wordless (Refused number) = Refused number

@@ -1,7 +1,7 @@
 -- Request P7, the theorem of `Guides`: past the map's own check nothing but the word that a ZEROIZE answers reads flag 8. Assumes nothing.
 use Prim.Native.Nat.{ℕ, _+_}
 use mathlib.Core.Path.{_≡_, refl, sym, ap, ap₂, _∙_}
-use mathlib.Core.Bool.{Bool, true, false, cond, _&&_, false≢true}
+use mathlib.Core.Bool.{Bool, true, false, cond, false≢true}
 use mathlib.Core.List.{List, [], _∷_, _++_}
 use lib.ListN.{length}
 use Rattle.laws.specs.Below.{firstBelow, first-same}
@@ -31,8 +31,8 @@ use Rattle.mailbox.specs.Mailbox.{Lent, lent, writtenOut, mailboxOf}
 use Rattle.direct.specs.declared.Command.{Command}
 use Rattle.direct.specs.declared.Command.the-variants.{Read, Write, Zeroize}
 use Rattle.direct.specs.declared.Answer.{Answer}
-use Rattle.direct.specs.declared.Answer.the-variants.{Word as Shown, Withheld, Refused}
-use Rattle.direct.specs.Direct.{cellOf, wordOf, forbidden, changesSlot, wordTests, directTests, cellsAfter, toldWord, answerOf, carriedOut, directOf}
+use Rattle.direct.specs.declared.Answer.the-variants.{Word as Shown, Burned, Withheld, Refused}
+use Rattle.direct.specs.Direct.{cellOf, wordOf, forbidden, changesSlot, wordTests, directTests, cellsAfter, newAfter, toldWord, answerOf, carriedOut, directOf}
 use Rattle.direct.specs.Laws.{direct-at}
 use Rattle.history.specs.Calls.{Call, Direct, Erase, EraseCut, Mailbox, TakeReply, MakeTable, Restart, Told, Answering, Erasing}
 use Rattle.history.specs.Calls.{replying, outcomeOf, told, after, afterAll}
@@ -132,15 +132,17 @@ module _ (image other marks : List ℕ) (d : Differ8 image other) (good : mapGoo
   abbrev Alike : Outcome Answer State → Outcome Answer State → Type 0
   Alike o p = (wordless (o .told) ≡ wordless (p .told)) × (o .after ≡ p .after)
 
-  shown-alike : (hides : Bool) (v w : ℕ) → wordless (cond hides Withheld (Shown v)) ≡ wordless (cond hides Withheld (Shown w))
-  shown-alike true v w = refl
-  shown-alike false v w = refl
+  shown-alike : (hidden few : Bool) (v w new : ℕ)
+      → wordless (cond hidden (cond few Withheld (Shown v)) (Burned v new)) ≡ wordless (cond hidden (cond few Withheld (Shown w)) (Burned w new))
+  shown-alike true true v w new = refl
+  shown-alike true false v w new = refl
+  shown-alike false few v w new = refl
 
-  answer-alike : (i cell : ℕ) (wide : Bool) (bound word : ℕ)
-      → wordless (answerOf (Zeroize cell) (entryOf other i) wide bound word) ≡ wordless (answerOf (Zeroize cell) (entryOf image i) wide bound word)
-  answer-alike i cell wide bound word =
+  answer-alike : (i cell : ℕ) (wide : Bool) (bound word new : ℕ)
+      → wordless (answerOf (Zeroize cell) (entryOf other i) wide bound word new) ≡ wordless (answerOf (Zeroize cell) (entryOf image i) wide bound word new)
+  answer-alike i cell wide bound word new =
       let shown : Entry → ℕ = λ x. toldWord x wide word in
-      rw (same-secret (entry i)) (shown-alike (secret (entryOf image i) && short bound word) (shown (entryOf other i)) (shown (entryOf image i)))
+      rw (same-secret (entry i)) (shown-alike (secret (entryOf image i)) (short bound word) (shown (entryOf other i)) (shown (entryOf image i)) new)
 
   carried-alike : (found : Lookup) (cell : ℕ) (s : State)
       → Alike (carriedOut found (Zeroize cell) other marks s) (carriedOut found (Zeroize cell) image marks s)
@@ -148,7 +150,7 @@ module _ (image other marks : List ℕ) (d : Differ8 image other) (good : mapGoo
   carried-alike NoWord cell s = (refl, refl)
   carried-alike (Word i role wide) cell s =
       let stands = wordOf wide cell (cellsAfter (Zeroize cell) wide marks (s .cells)) in
-      (rw bound (answer-alike i cell wide (headerOf image .bound) stands), refl)
+      (rw bound (answer-alike i cell wide (headerOf image .bound) stands (newAfter (Zeroize cell) wide marks (s .cells))), refl)
 
   zeroize-alike : (cell : ℕ) (s : State) → Alike (directOf other marks (Zeroize cell) s) (directOf image marks (Zeroize cell) s)
   zeroize-alike cell s =

@@ -21,4 +21,5 @@ pub mod Attempts
 pub mod Reached
 pub mod Demand3Proof
 pub mod Fronts
+pub mod Charge
 pub mod SmallDrive

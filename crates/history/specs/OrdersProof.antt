@@ -61,9 +61,9 @@ module _ (image marks : List ℕ) (s : State) where
 
     -- nor does FERS
     fers-sound : (answer : Answer) → Sound (opened (orderIn (replyOf (fersOf answer))) orders) (contextAfter (fersOf answer) (s .context))
-    fers-sound (Ended short first burns) = sound
+    fers-sound (Ended short first burns new) = sound
     fers-sound (NotErased number burns) = refused-sound number
-    fers-sound (Cut burns) = sound
+    fers-sound (Cut burns new) = sound
 
     accepted-sound : (command : Code) (request : List ℕ) → mapGood image ≡ true → wholeArrays image (s .cells) marks ≡ true → known command ≡ true
         → ((k : ℕ) → testAt (ownTests command image request s) k ≡ false) → DoneSound (accepted command image marks request s)

@@ -1,7 +1,7 @@
 -- Demand 3: what holds of every state that a history reaches, and that an attempt keeps it. What any number of runs leaves of a
 -- partition is `burns` `Safe`. Assumes nothing.
 use Prim.Native.Nat.{ℕ, _%_, _≤_, _<_}
-use mathlib.Core.Path.{_≡_, refl, sym, ap, ap₂, _∙_}
+use mathlib.Core.Path.{_≡_, refl, sym, ap, _∙_}
 use mathlib.Core.Logic.{_⊎_, ⊎-elim}
 use mathlib.Core.Bool.{Bool}
 use mathlib.Core.List.{List}
@@ -14,9 +14,9 @@ use Rattle.drive.specs.Drive.{Whole as WholeDrive, cellsOf}
 use Rattle.cache.specs.Cache.{cacheOf, AtRest}
 use Rattle.burns.specs.declared.End.{End}
 use Rattle.burns.specs.declared.End.the-variants.{Whole, Stopped, Cut as CutEnd}
-use Rattle.burns.specs.Run.{Tally, tallyOf, Ran, ran, run}
+use Rattle.burns.specs.Run.{Tally, tallyOf, Ran, run}
 use Rattle.burns.specs.Cells.{full}
-use Rattle.burns.specs.Safe.{Safe, safe-start, safe-run, run-alike, run-full, run-cells, filled-kept}
+use Rattle.burns.specs.Safe.{Alike, Safe, safe-start, safe-run, run-alike, run-full, run-cells, filled-kept}
 use Rattle.erasure.specs.declared.Answer.{Answer}
 use Rattle.erasure.specs.Erasure.{runOn, answerBy, ranOf}
 use Rattle.erasure.specs.Laws.{part-long}
@@ -24,12 +24,23 @@ use Rattle.erasure.specs.Parts.{Outside, run-part, run-outside, run-length, sam
 use Rattle.erasure.specs.Cuts.{whole-by}
 use Rattle.history.specs.Refused.{refused-unchanged}
 use Rattle.history.specs.Calls.{Call, Told, told, refusal, after}
-use Rattle.history.specs.Demand3.{Attempt, Uncut, Alone, callAlone, startAlone}
+use Rattle.history.specs.Demand3.{Attempt, Uncut, Alone, callAlone, startAlone, numberless, compared}
 use Rattle.history.specs.Forms.{as-lent, Quiet, Ready, whole-at, runFrom, Form, refuses, runs}
 use Rattle.history.specs.Attempts.{form, Rested, rest-after}
 
-ran-is : (r q : Ran) → r .end ≡ q .end → r .tally .cells ≡ q .tally .cells → r .tally .burns ≡ q .tally .burns → r ≡ q
-ran-is r q e c b = ap₂ ran e (ap₂ tallyOf c b)
+-- two runs end alike, after as many burns, and leave the same cells
+record SameRun (r q : Ran) : Type 0 where
+  alike : Alike r q
+  cells-same : r .tally .cells ≡ q .tally .cells
+
+-- so they answer the same but for the fuses newly set
+answers-same : (image : List ℕ) (i : ℕ) (r q : Ran) → SameRun r q → numberless (ranOf image i r .told) ≡ numberless (ranOf image i q .told)
+answers-same image i r q same = by (r .end) (r .tally) ∙ rw (same .alike .end, same .alike .burns, same .cells-same) refl ∙ sym (by (q .end) (q .tally))
+  where
+    by : (end : End) (t : Tally) → numberless (answerBy end image i t) ≡ numberless (answerBy end image i (tallyOf (t .cells) (t .burns) 0))
+    by Whole t = refl
+    by Stopped t = refl
+    by CutEnd t = refl
 
 module _ (image marks : List ℕ) (i : ℕ) (start : State) where
   abbrev cells : List ℕ
@@ -105,15 +116,19 @@ module _ (image marks : List ℕ) (i : ℕ) (start : State) where
     unfolding runOn
     burns-is c = refl
 
-    same-run : (runFrom image marks i start k mask s .end ≡ CutEnd → ⊥) → runOn image cells marks i k mask ≡ runFrom image marks i start k mask s
+    same-run : (runFrom image marks i start k mask s .end ≡ CutEnd → ⊥) → SameRun (runOn image cells marks i k mask) (runFrom image marks i start k mask s)
     same-run uncut =
-        let alike = run-alike (r .safe) four even software′ k mask in
+        let like = run-alike (r .safe) four even software′ k mask in
         let same = run-cells (r .safe) four even software′ k mask (λ e. uncut (end-is (s .cells) ∙ e)) in
-        ran-is _ _ (end-is cells ∙ sym (alike .end) ∙ sym (end-is (s .cells)))
-        (same-array image i _ _ (run-length image cells marks i k mask there (ready .partition) ∙ sym (r .quiet .long) ∙ sym (run-length image (s .cells) marks i k mask here (ready .partition)))
-        (λ j o. run-outside image cells marks i k mask there (ready .partition) j o ∙ sym (r .outside j o) ∙ sym (run-outside image (s .cells) marks i k mask here (ready .partition) j o))
-        (part-after cells there ∙ sym same ∙ sym (part-after (s .cells) here)))
-        (burns-is cells ∙ sym (alike .burns) ∙ sym (burns-is (s .cells)))
+        record {
+          alike = record {
+            end = end-is cells ∙ sym (like .end) ∙ sym (end-is (s .cells));
+            burns = burns-is cells ∙ sym (like .burns) ∙ sym (burns-is (s .cells));
+          };
+          cells-same = same-array image i _ _ (run-length image cells marks i k mask there (ready .partition) ∙ sym (r .quiet .long) ∙ sym (run-length image (s .cells) marks i k mask here (ready .partition)))
+              (λ j o. run-outside image cells marks i k mask there (ready .partition) j o ∙ sym (r .outside j o) ∙ sym (run-outside image (s .cells) marks i k mask here (ready .partition) j o))
+              (part-after cells there ∙ sym same ∙ sym (part-after (s .cells) here));
+        }
 
   -- the partition holds every fuse that was set at the start and every one that is not stuck
   abbrev pub Filled : (c : List ℕ) → Type 0
@@ -130,7 +145,7 @@ module _ (image marks : List ℕ) (i : ℕ) (start : State) where
 
         by : Form image marks i start call → Reached (after image marks call s)
         by (refuses t l o f) = reached-same s (after image marks call s) r (as-lent image marks call s (f s (r .quiet)) .1) rest-now
-        by (runs k mask tell ready st c f) = reached-run ready k mask s r (after image marks call s) (as-lent image marks call s (f s (r .quiet)) .1) rest-now
+        by (runs k mask tell ready blind st c f) = reached-run ready k mask s r (after image marks call s) (as-lent image marks call s (f s (r .quiet)) .1) rest-now
 
     -- full cells stay full
     pub filled-attempt : Filled (s .cells) → Filled (after image marks call s .cells)
@@ -138,7 +153,7 @@ module _ (image marks : List ℕ) (i : ℕ) (start : State) where
       where
         by : Form image marks i start call → getD (part (after image marks call s .cells)) j 0 ≡ full (getD (part marks) j 0) (getD (part cells) j 0)
         by (refuses t _ _ f) = rw (as-lent image marks call s (f s (r .quiet)) .1) (h j l)
-        by (runs k mask tell ready st c f) =
+        by (runs k mask tell ready blind st c f) =
             rw (as-lent image marks call s (f s (r .quiet)) .1, part-after ready k mask s r (s .cells) (here ready k mask s r))
             (filled-kept (part marks) (software (entryOf image i)) k mask (part (s .cells)) j (getD (part cells) j 0) (h j l))
 
@@ -154,7 +169,7 @@ module _ (image marks : List ℕ) (i : ℕ) (start : State) where
       where
         by : Form image marks i start call → getD (part (after image marks call s .cells)) j 0 ≡ full (getD (part marks) j 0) (getD (part cells) j 0)
         by (refuses t m o f) = let same = ap refusal (as-lent image marks call s (f s (r .quiet)) .0) in absurd (omega arith)
-        by (runs k mask tell ready st c f) =
+        by (runs k mask tell ready blind st c f) =
             let did = as-lent image marks call s (f s (r .quiet)) in
             let x = runFrom image marks i start k mask s in
             let ended = went-through tell (x .tally) (st (x .tally)) (x .end) (c s (r .quiet) u) (ap refusal (sym (did .0)) ∙ z) in
@@ -171,15 +186,16 @@ module _ (image marks : List ℕ) (i : ℕ) (start : State) where
       begun-quiet : Quiet start begun
       begun-quiet = record { long = refl; rest = alone .at-rest; table = alone .same-table }
 
-      pub alone-answer : told image marks (callAlone call alone) begun ≡ told image marks call s
+      pub alone-answer : compared (told image marks (callAlone call alone) begun) ≡ compared (told image marks call s)
       alone-answer = by (form image marks i start call s (r .quiet) a)
         where
-          by : Form image marks i start call → told image marks (callAlone call alone) begun ≡ told image marks call s
-          by (refuses t _ _ f) = f begun begun-quiet (alone .response) (alone .block) (alone .same) .0 ∙ sym (as-lent image marks call s (f s (r .quiet)) .0)
-          by (runs k mask tell ready st c f) =
-              f begun begun-quiet (alone .response) (alone .block) (alone .same) .0
-              ∙ ap (λ (x : Ran). tell (ranOf image i x .told)) (same-run ready k mask s r (c s (r .quiet) u))
-              ∙ sym (as-lent image marks call s (f s (r .quiet)) .0)
+          by : Form image marks i start call → compared (told image marks (callAlone call alone) begun) ≡ compared (told image marks call s)
+          by (refuses t _ _ f) =
+              ap compared (f begun begun-quiet (alone .response) (alone .block) (alone .same) .0 ∙ sym (as-lent image marks call s (f s (r .quiet)) .0))
+          by (runs k mask tell ready blind st c f) =
+              ap compared (f begun begun-quiet (alone .response) (alone .block) (alone .same) .0) ∙ blind _
+              ∙ ap (λ (x : Answer). compared (tell x)) (answers-same image i _ _ (same-run ready k mask s r (c s (r .quiet) u)))
+              ∙ sym (blind _) ∙ ap compared (sym (as-lent image marks call s (f s (r .quiet)) .0))
 
       pub alone-cells : (refusal (told image marks call s) ≡ 0) ⊎ (refusal (told image marks call s) ≡ 15)
           → after image marks (callAlone call alone) begun .cells ≡ after image marks call s .cells
@@ -189,9 +205,9 @@ module _ (image marks : List ℕ) (i : ℕ) (start : State) where
           by (refuses t l o f) =
               let same = ap refusal (as-lent image marks call s (f s (r .quiet)) .0) in
               absurd (⊎-elim (λ (e : refusal (told image marks call s) ≡ 0). omega arith) (λ (e : refusal (told image marks call s) ≡ 15). o (sym same ∙ e)) z)
-          by (runs k mask tell ready st c f) =
+          by (runs k mask tell ready blind st c f) =
               f begun begun-quiet (alone .response) (alone .block) (alone .same) .1
-              ∙ ap (λ (x : Ran). x .tally .cells) (same-run ready k mask s r (c s (r .quiet) u))
+              ∙ same-run ready k mask s r (c s (r .quiet) u) .cells-same
               ∙ sym (as-lent image marks call s (f s (r .quiet)) .1)
 
     -- where nothing gets past the tests, it is refused and nothing changes
@@ -203,4 +219,4 @@ module _ (image marks : List ℕ) (i : ℕ) (start : State) where
             let same = ap refusal (as-lent image marks call s (f s (r .quiet)) .0) in
             let refused : 1 ≤ refusal (told image marks call s) = omega arith in
             (refused, refused-unchanged image marks s call refused ∙ ap (λ (c : List ℕ). withCells c s) (r .still unready))
-        by (runs k mask tell ready st c f) = absurd (unready ready)
+        by (runs k mask tell ready blind st c f) = absurd (unready ready)

@@ -3,7 +3,7 @@
 use Prim.Native.Nat.{ℕ, suc, _-_, _≤_, _<_}
 use mathlib.Core.Path.{_≡_, refl, sym, ap, subst}
 use mathlib.Core.Logic.{⊎-elim}
-use mathlib.Core.Bool.{Bool, true, false, _&&_}
+use mathlib.Core.Bool.{Bool, true, false}
 use mathlib.Core.List.{List, []}
 use native.Mathlib.Omega.{arith}
 use lib.ListN.{length}
@@ -25,7 +25,7 @@ use Rattle.drive.specs.Drive.{Whole as WholeDrive, wholeArrays}
 use Rattle.direct.specs.declared.Command.{Command}
 use Rattle.direct.specs.declared.Command.the-variants.{Read, Write, Zeroize}
 use Rattle.direct.specs.declared.Answer.{Answer as DirectAnswer}
-use Rattle.direct.specs.declared.Answer.the-variants.{Word, Done as Burned, Withheld, Refused as NotDone}
+use Rattle.direct.specs.declared.Answer.the-variants.{Word, Burned, Done, Withheld, Refused as NotDone}
 use Rattle.direct.specs.Direct.{cellOf, directTests, carriedOut, answerOf, directBy, directOf}
 use Rattle.direct.specs.Laws.{direct-at}
 use Rattle.erasure.specs.declared.Answer.{Answer}
@@ -56,15 +56,16 @@ abbrev pub Unchanged : (image marks : List ℕ) → Call → State → Type 0
 Unchanged image marks call s = 1 ≤ refusal (told image marks call s) → after image marks call s ≡ s
 
 -- a direct command that is carried out is not refused
-carried-answers : (command : Command) (x : Entry) (wide : Bool) (bound word : ℕ) → refusal (Answering (answerOf command x wide bound word)) ≡ 0
-carried-answers (Read cell) x wide bound word = refl
-carried-answers (Write cell value) x wide bound word =
-    cond-keeps (λ (a : DirectAnswer). refusal (Answering a) ≡ 0) (secret x) Burned (Word word) (λ _. refl) (λ _. refl)
-carried-answers (Zeroize cell) x wide bound word =
-    cond-keeps (λ (a : DirectAnswer). refusal (Answering a) ≡ 0) (secret x && short bound word) Withheld (Word _) (λ _. refl) (λ _. refl)
+carried-answers : (command : Command) (x : Entry) (wide : Bool) (bound word new : ℕ) → refusal (Answering (answerOf command x wide bound word new)) ≡ 0
+carried-answers (Read cell) x wide bound word new = refl
+carried-answers (Write cell value) x wide bound word new =
+    cond-keeps (λ (a : DirectAnswer). refusal (Answering a) ≡ 0) (secret x) Done (Burned word new) (λ _. refl) (λ _. refl)
+carried-answers (Zeroize cell) x wide bound word new =
+    let P : DirectAnswer → Type 0 = λ a. refusal (Answering a) ≡ 0 in
+    cond-keeps P (secret x) _ (Burned _ new) (λ _. cond-keeps P (short bound word) Withheld (Word _) (λ _. refl) (λ _. refl)) (λ _. refl)
 
-not-refused : (command : Command) (x : Entry) (wide : Bool) (bound word : ℕ) → 1 ≤ refusal (Answering (answerOf command x wide bound word)) → ⊥
-not-refused command x wide bound word l = omega (arith, carried-answers command x wide bound word)
+not-refused : (command : Command) (x : Entry) (wide : Bool) (bound word new : ℕ) → 1 ≤ refusal (Answering (answerOf command x wide bound word new)) → ⊥
+not-refused command x wide bound word new l = omega (arith, carried-answers command x wide bound word new)
 
 -- a reply that refuses tells the effect's number
 pub reply-number : (e : Effect) (n : ℕ) → refusal (Replying (replyOf e) []) ≡ suc n → e .refusal ≡ suc n
@@ -90,7 +91,7 @@ module _ (image marks : List ℕ) (s : State) where
   by-lookup command (Found i role wide) =
       let tests = directTests (Found i role wide) command image marks s in
       first-elim DirectStays (refusing NotDone s) tests (carriedOut (Found i role wide) command image marks s)
-      (λ n a l. (refl, λ e. not-numbered 15 tests refl a e)) (λ none l. absurd (not-refused command _ _ _ _ l))
+      (λ n a l. (refl, λ e. not-numbered 15 tests refl a e)) (λ none l. absurd (not-refused command _ _ _ _ _ l))
 
   pub direct-stays : (command : Command) → DirectStays (directOf image marks command s)
   direct-stays command = subst DirectStays (sym (direct-at image marks command s refl)) (by-lookup command (wordAt image (cellOf command)))

@@ -20,10 +20,11 @@ use Rattle.word.specs.declared.Lookup.{Lookup}
 use Rattle.word.specs.declared.Lookup.the-variants.{Word, Nothing as NoWord}
 use Rattle.word.specs.Word.{holds, wordAt}
 use Rattle.word.specs.Laws.{Found, apart, holds-at, word-tells, secret-wide}
+use Rattle.direct.specs.declared.Command.{Command}
 use Rattle.direct.specs.declared.Command.the-variants.{Read, Write, Zeroize}
 use Rattle.direct.specs.declared.Answer.{Answer}
-use Rattle.direct.specs.declared.Answer.the-variants.{Word as Shown, Done, Withheld, Refused}
-use Rattle.direct.specs.Direct.{wordOf, forbidden, directTests, cellsAfter, toldWord, answerOf, carriedOut, directBy, directOf}
+use Rattle.direct.specs.declared.Answer.the-variants.{Word as Shown, Burned, Done, Withheld, Refused}
+use Rattle.direct.specs.Direct.{cellOf, wordOf, forbidden, directTests, cellsAfter, toldWord, answerOf, carriedOut, directBy, directOf}
 use Rattle.direct.specs.Laws.{direct-at}
 use Rattle.drive.specs.Active.{Available, available-tells}
 use Rattle.codec.specs.Fields.{commandOf}
@@ -38,6 +39,7 @@ use Rattle.history.specs.Calls.{orderIn}
 -- an answer that shows a word
 abbrev pub shows : Answer → Bool
 shows (Shown word) = true
+shows (Burned word new) = true
 shows Done = false
 shows Withheld = false
 shows (Refused number) = false
@@ -45,9 +47,18 @@ shows (Refused number) = false
 -- the word that an answer shows, 0 where it shows none
 abbrev pub shownWord : Answer → ℕ
 shownWord (Shown word) = word
+shownWord (Burned word new) = word
 shownWord Done = 0
 shownWord Withheld = 0
 shownWord (Refused number) = 0
+
+-- an answer that tells how many fuses were newly set (request P8)
+abbrev pub tellsNew : Answer → Bool
+tellsNew (Shown word) = false
+tellsNew (Burned word new) = true
+tellsNew Done = false
+tellsNew Withheld = false
+tellsNew (Refused number) = false
 
 -- the number of zeros of a word of 64 bits
 abbrev pub zerosOf : ℕ → ℕ
@@ -121,9 +132,9 @@ read-hides image marks s cell hidden =
 -- ---- WRITE and ZEROIZE
 
 -- a pair of a secret partition that is shown has few zeros as it stands, and on the older guide, which shows all ones, none
-shown-least : (x : Entry) (wide : Bool) (bound word : ℕ) → secret x ≡ true → wide ≡ true → (answer : Answer) → answer ≡ answerOf (Zeroize 0) x wide bound word
+shown-least : (x : Entry) (wide : Bool) (bound word new : ℕ) → secret x ≡ true → wide ≡ true → (answer : Answer) → answer ≡ answerOf (Zeroize 0) x wide bound word new
     → shows answer ≡ true → zerosOf (shownWord answer) ≤ 64 - bound
-shown-least x wide bound word s w answer e y =
+shown-least x wide bound word new s w answer e y =
     ⊎-elim
     (λ (t : short bound word ≡ true). let q : answer ≡ Withheld = e ∙ rw (s, t) in absurd (false≢true (rw q at y)))
     (λ (t : short bound word ≡ false).
@@ -160,7 +171,22 @@ module _ (image marks : List ℕ) (s : State) (cell : ℕ) (hidden : Secret imag
       let good : mapGood image ≡ true = not-false _ (h 0) in
       let lies = word-tells image good cell (hidden .partition) (hidden .role) (hidden .wide) (sym (hidden .starts)) in
       let pair = secret-wide image good lies (hidden .is-secret) in
-      shown-least (entryOf image (hidden .partition)) (hidden .wide) (headerOf image .bound) _ (hidden .is-secret) pair _ refl y))
+      shown-least (entryOf image (hidden .partition)) (hidden .wide) (headerOf image .bound) _ _ (hidden .is-secret) pair _ refl y))
+
+  -- request P8, "In a secret partition WRITE and ZEROIZE do not show it", the number of fuses newly set, nor does READ
+  pub new-hidden : (command : Command) → cellOf command ≡ cell → tellsNew (directOf image marks command s .told) ≡ false
+  unfolding found carriedOut
+  new-hidden command at =
+      rw (direct-at image marks command s (ap (wordAt image) at ∙ hidden .starts))
+      (first-elim (λ (o : Outcome Answer State). tellsNew (o .told) ≡ false) (refusing Refused s)
+      (directTests found command image marks s) (carriedOut found command image marks s)
+      (λ n _. refl)
+      (λ h. by command))
+    where
+      by : (command : Command) → tellsNew (carriedOut found command image marks s .told) ≡ false
+      by (Read cell) = refl
+      by (Write cell value) = rw (hidden .is-secret)
+      by (Zeroize cell) = rw (hidden .is-secret) (cond-keeps (λ (a : Answer). tellsNew a ≡ false) (short _ _) Withheld (Shown _) (λ _. refl) (λ _. refl))
 
 -- ---- loads
 

@@ -12,7 +12,7 @@ use Rattle.endian.specs.Endian.{u16At, u32At, bytes4}
 use Rattle.map.specs.Map.{headerGood, fillerGood, entryGood, placeGood, mapGood}
 use Rattle.map.specs.Image.{image}
 use Rattle.map.specs.Vectors.{two}
-use Rattle.fuse.specs.Fuse.{pairOf, onesOf, burnCell, burnWord}
+use Rattle.fuse.specs.Fuse.{pairOf, onesOf, burnCell, burnWord, setFuses, newFuses}
 use Rattle.partition.specs.declared.State.{State as PartitionState}
 use Rattle.partition.specs.declared.State.the-variants.{Erased, Torn, Programmed}
 use Rattle.partition.specs.Partition.{shortAt, marked, zeroCell, stateOf, lowestShort}
@@ -96,9 +96,12 @@ slotCells c0 c1 c2 c3 c4 c5 = c0 ∷ c1 ∷ c2 ∷ c3 ∷ c4 ∷ c5 ∷ replicat
 abbrev all : ℕ
 all = 0xFFFF_FFFF
 
--- a response of 20 bytes: chksum, fips_status, reserved, and two fields
+-- a response of 20 bytes: chksum, fips_status, reserved, and two fields; FERS has a third, the fuses newly set (request P8): 24 bytes
 abbrev response : (chksum one two : ℕ) → List ℕ
 response chksum one two = bytes4 chksum ++ bytes4 0 ++ bytes4 0 ++ bytes4 one ++ bytes4 two
+
+abbrev erased : (chksum short first new : ℕ) → Told
+erased chksum short first new = Replying (Accepted 24 Nothing) (response chksum short first ++ bytes4 new)
 
 abbrev row : Told → (cells : List ℕ) (ones : ℕ) → PartitionState → (short : ℕ) → Bool → Seen
 row tells cells ones state short hek = record { tells = tells; cells = cells; ones = ones; state = state; short = short; hek = hek }
@@ -108,24 +111,24 @@ cases : List (Seen × Seen)
 cases =
     -- 1: active 0, available 1
     (seen noMarks [] fsta, row (Replying (Accepted 20 Nothing) (response 0xFFFF_FFFF 0 1)) (slotCells 1 0 0 0 0 0) 1 Programmed 3 true)
-    -- 2, and the same erasure by a library call, which tells its burns
-    ∷ (seen noMarks [] (fers 0xFFFF_FED0 0), row (Replying (Accepted 20 Nothing) (response 0xFFFF_FC04 0 0xFFFF_FFFF)) (slotCells all all all all all all) 64 Erased 0 false)
-    ∷ (seen noMarks [] (Erase 0), row (Erasing (Ended 0 0xFFFF_FFFF 3)) (slotCells all all all all all all) 64 Erased 0 false)
+    -- 2, by request P8 "Case 2's response gains 191"; and the same erasure by a library call, which tells its burns
+    ∷ (seen noMarks [] (fers 0xFFFF_FED0 0), row (erased 0xFFFF_FB45 0 all 191) (slotCells all all all all all all) 64 Erased 0 false)
+    ∷ (seen noMarks [] (Erase 0), row (Erasing (Ended 0 all 3 191)) (slotCells all all all all all all) 64 Erased 0 false)
     -- 3: 60 ones of word 0
-    ∷ (seen (stuck 1 0x0F) [] (fers 0xFFFF_FED0 0), row (Replying (Accepted 20 Nothing) (response 0xFFFF_FC04 0 0xFFFF_FFFF)) (slotCells all 0xFFFF_FFF0 all all all all) 60 Erased 0 false)
+    ∷ (seen (stuck 1 0x0F) [] (fers 0xFFFF_FED0 0), row (erased 0xFFFF_FB49 0 all 187) (slotCells all 0xFFFF_FFF0 all all all all) 60 Erased 0 false)
     -- 4: 59 ones
-    ∷ (seen (stuck 1 0x1F) [] (fers 0xFFFF_FED0 0), row (Replying (Accepted 20 Nothing) (response 0xFFFF_FFFF 1 0)) (slotCells all 0xFFFF_FFE0 all all all all) 59 Torn 1 false)
+    ∷ (seen (stuck 1 0x1F) [] (fers 0xFFFF_FED0 0), row (erased 0xFFFF_FF45 1 0 186) (slotCells all 0xFFFF_FFE0 all all all all) 59 Torn 1 false)
     -- 5, by request P4: erased, 1 short, the indicator; and the same by a library call
-    ∷ (seen (stuck 5 0x1F) [] (fers 0xFFFF_FED0 0), row (Replying (Accepted 20 Nothing) (response 0xFFFF_FFFB 1 4)) (slotCells all all all all all 0xFFFF_FFE0) 64 Erased 1 false)
-    ∷ (seen (stuck 5 0x1F) [] (Erase 0), row (Erasing (Ended 1 4 3)) (slotCells all all all all all 0xFFFF_FFE0) 64 Erased 1 false)
+    ∷ (seen (stuck 5 0x1F) [] (fers 0xFFFF_FED0 0), row (erased 0xFFFF_FF41 1 4 186) (slotCells all all all all all 0xFFFF_FFE0) 64 Erased 1 false)
+    ∷ (seen (stuck 5 0x1F) [] (Erase 0), row (Erasing (Ended 1 4 3 186)) (slotCells all all all all all 0xFFFF_FFE0) 64 Erased 1 false)
     -- 6, by request P4: cut at the indicator, 59 bits of it, and 60
-    ∷ (seen noMarks [] (EraseCut 0 0 (low 59)), row (Erasing (Cut 1)) (slotCells 1 0 0 0 all 0x07FF_FFFF) 1 Torn 3 false)
-    ∷ (seen noMarks [] (EraseCut 0 0 (low 60)), row (Erasing (Cut 1)) (slotCells 1 0 0 0 all 0x0FFF_FFFF) 1 Torn 2 false)
-    -- 7: cut at the first data word, and FERS again, as case 2
-    ∷ (seen noMarks [] (EraseCut 0 1 0xFFFF_FFFF), row (Erasing (Cut 2)) (slotCells all 0 0 0 all all) 32 Torn 2 false)
+    ∷ (seen noMarks [] (EraseCut 0 0 (low 59)), row (Erasing (Cut 1 59)) (slotCells 1 0 0 0 all 0x07FF_FFFF) 1 Torn 3 false)
+    ∷ (seen noMarks [] (EraseCut 0 0 (low 60)), row (Erasing (Cut 1 60)) (slotCells 1 0 0 0 all 0x0FFF_FFFF) 1 Torn 2 false)
+    -- 7: cut at the first data word, and FERS again, as case 2, but "Case 7's last gains 96"
+    ∷ (seen noMarks [] (EraseCut 0 1 0xFFFF_FFFF), row (Erasing (Cut 2 95)) (slotCells all 0 0 0 all all) 32 Torn 2 false)
     ∷ (
       seen noMarks (EraseCut 0 1 0xFFFF_FFFF ∷ []) (fers 0xFFFF_FED0 0),
-      row (Replying (Accepted 20 Nothing) (response 0xFFFF_FC04 0 0xFFFF_FFFF))
+      row (erased 0xFFFF_FBA4 0 all 96)
           (slotCells all all all all all all) 64 Erased 0 false,
     )
     -- 8: partition 1, and 2
@@ -139,7 +142,7 @@ cases =
 table : map (λ (c : Seen × Seen). c .0) cases ≡ map (λ (c : Seen × Seen). c .1) cases
 unfolding cases doneOf requestTests mapGood wholeArrays every headerGood fillerGood entryGood placeGood allBelow u16At u32At activeSlot openSlot slotAt surveyAt
     stateOf marked shortAt zeroCell countBelow firstFrom onesIn cacheOf tableOf isAt emptied runOn eraseOf burnsOf order wordsFrom stopsAfter goesOn burnWord burnCell
-    lowestShort
+    newFuses setFuses lowestShort
 table = refl
 
 -- ---- case 10, where by request P5 each order is answered done

@@ -1,19 +1,20 @@
 -- Request P7: "State once, over both guides, what the fuses hold afterwards" of a ZEROIZE, and that "Withholding stays": in that claim the
--- flag does not occur; its theorem is `zeroize-leaves`. Which word is answered, by the flag, is `zeroize-answers`. Assumes nothing.
+-- flag does not occur; its theorem is `zeroize-leaves`. What is answered, the word by the flag and beside it, by request P8, the fuses newly set, is
+-- `zeroize-answers`. Assumes nothing.
 use Prim.Native.Nat.{ℕ, _+_, _≤_, _<_}
 use mathlib.Core.Path.{_≡_, refl, sym, subst}
-use mathlib.Core.Logic.{_⊎_, inl, inr}
-use mathlib.Core.Bool.{Bool, true, false, cond, _&&_}
+use mathlib.Core.Logic.{_⊎_, inl, inr, ⊎-elim}
+use mathlib.Core.Bool.{Bool, true, false, cond}
 use mathlib.Core.List.{List}
 use native.Mathlib.Omega.{arith}
 use lib.ListN.{length, getD}
 use lib.Bits.{bitOr}
 use borrow.Author.Tests.{not-false, lt-ltb, ltb-true}
-use Rattle.laws.specs.Tests.{and, cond-keeps}
+use Rattle.laws.specs.Tests.{decided, cond-keeps}
 use Rattle.laws.specs.Refusals.{not-numbered, first-elim}
 use Rattle.context.specs.State.{State, withCells, Outcome, refusing}
 use Rattle.map.specs.Map.{headerOf, entryOf, secret, mapGood}
-use Rattle.fuse.specs.Fuse.{free, onesOf, short, cellsIn, allOnes}
+use Rattle.fuse.specs.Fuse.{free, onesOf, short, cellsIn, allOnes, newFuses}
 use Rattle.burns.specs.Cells.{grown-burn, burn-beside, burn-fills}
 use Rattle.word.specs.declared.Role.{Role}
 use Rattle.word.specs.declared.Lookup.{Lookup}
@@ -23,8 +24,8 @@ use Rattle.word.specs.Laws.{word-tells}
 use Rattle.erasure.specs.Cuts.{whole-by}
 use Rattle.direct.specs.declared.Command.the-variants.{Zeroize}
 use Rattle.direct.specs.declared.Answer.{Answer}
-use Rattle.direct.specs.declared.Answer.the-variants.{Word as Shown, Withheld, Refused}
-use Rattle.direct.specs.Direct.{wordOf, directTests, cellsAfter, toldWord, carriedOut, directBy, directOf}
+use Rattle.direct.specs.declared.Answer.the-variants.{Word as Shown, Burned, Withheld, Refused}
+use Rattle.direct.specs.Direct.{wordOf, directTests, cellsAfter, newAfter, toldWord, carriedOut, directBy, directOf}
 use Rattle.direct.specs.Laws.{direct-at}
 use Rattle.history.specs.Calls.{Direct, Told, Answering, told, refusal, after}
 use Rattle.history.specs.Refused.{refused-unchanged}
@@ -54,9 +55,11 @@ pub record ZeroizeLeaves (image marks : List ℕ) (cell : ℕ) (s : State) : Typ
 -- ---- the theorems
 
 -- it is withheld by its test alone
-withheld-by : (hides : Bool) (shown : ℕ) → Answering (cond hides Withheld (Shown shown)) ≡ Answering Withheld → hides ≡ true
-withheld-by true shown e = refl
-withheld-by false shown e = let z : _≡_ {A = ℕ} 0 1 = cc in absurd (omega arith)
+withheld-by : (hidden few : Bool) (shown new : ℕ) → Answering (cond hidden (cond few Withheld (Shown shown)) (Burned shown new)) ≡ Answering Withheld
+    → (hidden ≡ true) × (few ≡ true)
+withheld-by true true shown new e = (refl, refl)
+withheld-by true false shown new e = let z : _≡_ {A = ℕ} 0 1 = cc in absurd (omega arith)
+withheld-by false few shown new e = let z : _≡_ {A = ℕ} 0 1 = cc in absurd (omega arith)
 
 module _ (image marks : List ℕ) (cell : ℕ) (s : State) where
   abbrev Carried : Outcome Answer State → Type 0
@@ -85,27 +88,36 @@ module _ (image marks : List ℕ) (cell : ℕ) (s : State) where
         beside = burn-beside marks cell wide allOnes (s .cells);
         as-many = grown-burn marks cell wide allOnes (s .cells) .len;
         same-context = refl;
-        hidden = λ w. let both = and (secret (entryOf image i)) _ (withheld-by _ _ w) in (both .0, ltb-true _ _ (both .1));
+        hidden = λ w. let both = withheld-by (secret (entryOf image i)) _ _ _ w in (both .0, ltb-true _ _ (both .1));
         hides = λ h few. rw (h, lt-ltb _ _ few);
       })
 
-  -- it answers the word that it tells of partition i's word at the cell, by the flag, or withholds it
+  -- it answers the word that it tells of partition i's word at the cell, by the flag, with the fuses newly set beside it; in a secret partition
+  -- the word alone, or withholds it
   module _ {i : ℕ} {role : Role} {wide : Bool} (starts : wordAt image cell ≡ Word i role wide) where
+    abbrev toldOf : State → ℕ
+    toldOf now = toldWord (entryOf image i) wide (wordOf wide cell (now .cells))
+
     abbrev Answers : Outcome Answer State → Type 0
-    Answers o = refusal (Answering (o .told)) ≡ 0 → (o .told ≡ Withheld) ⊎ (o .told ≡ Shown (toldWord (entryOf image i) wide (wordOf wide cell (o .after .cells))))
+    Answers o = refusal (Answering (o .told)) ≡ 0
+        → ((secret (entryOf image i) ≡ false) × (o .told ≡ Burned (toldOf (o .after)) (newFuses marks cell wide allOnes (s .cells))))
+        ⊎ ((secret (entryOf image i) ≡ true) × ((o .told ≡ Withheld) ⊎ (o .told ≡ Shown (toldOf (o .after)))))
 
     pub zeroize-answers : Answers (directOf image marks (Zeroize cell) s)
-    unfolding carriedOut
+    unfolding carriedOut newAfter
     zeroize-answers =
         let tests = directTests (Word i role wide) (Zeroize cell) image marks s in
         let now = withCells (cellsAfter (Zeroize cell) wide marks (s .cells)) s in
-        let stands = wordOf wide cell (now .cells) in
-        let shown = toldWord (entryOf image i) wide stands in
+        let few = short (headerOf image .bound) (wordOf wide cell (now .cells)) in
         subst Answers (sym (direct-at image marks (Zeroize cell) s starts))
         (first-elim Answers (refusing Refused s) tests (carriedOut (Word i role wide) (Zeroize cell) image marks s)
         (λ n a r. absurd (not-numbered 0 tests refl a r))
-        (λ none _. cond-keeps (λ (a : Answer). (a ≡ Withheld) ⊎ (a ≡ Shown shown))
-        (secret (entryOf image i) && short (headerOf image .bound) stands) Withheld (Shown shown) (λ _. inl refl) (λ _. inr refl)))
+        (λ none _.
+        ⊎-elim
+        (λ (y : secret (entryOf image i) ≡ true).
+        inr (y, rw y (cond-keeps (λ (a : Answer). (a ≡ Withheld) ⊎ (a ≡ Shown (toldOf now))) few Withheld (Shown (toldOf now)) (λ _. inl refl) (λ _. inr refl))))
+        (λ (n : secret (entryOf image i) ≡ false). inl (n, rw n))
+        (decided (secret (entryOf image i)))))
 
   pub zeroize-leaves : ZeroizeLeaves image marks cell s
   zeroize-leaves = record {

@@ -6,5 +6,6 @@
 // and when a key is loaded, `specs/HeldKeys` that keys are held only while the HEK is available,
 // `specs/Orders` and `specs/Recovery` what holds of orders and replies (P5), `specs/Handles` that no
 // handle is given twice (P6), `specs/Zeroize` what a ZEROIZE leaves and answers, `specs/Guides` that
-// only its word depends on flag 8 (P7), and `specs/SmallDrive` computes document 01's cases 1 to 10,
-// as P4 and P5 change them. It rests on `direct`, `erasure` and `mailbox`, and on what lies below them.
+// only its word depends on flag 8 (P7), `specs/Charge` that the fuses newly set add up (P8), and
+// `specs/SmallDrive` computes document 01's cases 1 to 10, as P4, P5 and P8 change them. It rests on
+// `direct`, `erasure` and `mailbox`, and on what lies below them.

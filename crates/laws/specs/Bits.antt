@@ -7,7 +7,7 @@ use native.Mathlib.Nat.{mod-eq-of-lt}
 use native.Mathlib.Numerals.{one-add}
 use lib.Arith.{half-le}
 use lib.Pow.{shr-shr}
-use lib.Bits.{bitAnd, bitOr, bitXor, differ, and-step, or-step, xor-step, or-zero-r, or-shr, and-shr, xor-shr, and-comm, and-mask, xor-add-and}
+use lib.Bits.{bitAnd, bitOr, bitXor, differ, and-step, or-step, xor-step, or-zero-r, or-shr, and-shr, xor-shr, and-comm, and-mask, and-le-r, or-add-and, xor-add-and}
 
 -- ---- a number by its digits: what digit i of n is, and two numbers with the same digits are equal
 
@@ -81,6 +81,10 @@ sub-or-l x y = digitwise (λ i. simp bit-or (omega arith))
 
 pub sub-or-r : (x y : ℕ) → y ⊆ bitOr x y
 sub-or-r x y = digitwise (λ i. simp bit-or (omega arith))
+
+-- and so x is at most both
+pub or-most : (x y : ℕ) → x ≤ bitOr x y
+or-most x y = omega (arith, or-add-and x y, and-le-r x y)
 
 pub or-lub : {x y z : ℕ} → x ⊆ z → y ⊆ z → bitOr x y ⊆ z
 or-lub p q = digitwise (λ i. simp bit-or (omega (arith, at-digit p i, at-digit q i)))

@@ -56,14 +56,14 @@ fers-does {cells = cells} q f = ap (λ (e : Effect). outcome e cells) f ∙ ap (
 
 -- it orders nothing, whatever its erasure answers
 pub fers-orders : (answer : Answer) → fersOf answer .order ≡ Nothing
-fers-orders (Ended short first burns) = refl
-fers-orders (Cut burns) = refl
+fers-orders (Ended short first burns new) = refl
+fers-orders (Cut burns new) = refl
 fers-orders (NotErased number burns) = refl
 
 -- so it leaves the context
 pub fers-context : (answer : Answer) (context : List ℕ) → contextAfter (fersOf answer) context ≡ context
-fers-context (Ended short first burns) context = refl
-fers-context (Cut burns) context = refl
+fers-context (Ended short first burns new) context = refl
+fers-context (Cut burns new) context = refl
 fers-context (NotErased number burns) context = refl
 
 -- ---- what a call does, by where its judging ends
@@ -175,8 +175,8 @@ abbrev OnlyRefused : Effect → Type 0
 OnlyRefused e = (e .refusal ≡ 0 → ⊥) → e ≡ refused (e .refusal)
 
 fers-refuses : (answer : Answer) → OnlyRefused (fersOf answer)
-fers-refuses (Ended short first burns) o = absurd (o refl)
-fers-refuses (Cut burns) o = refl
+fers-refuses (Ended short first burns new) o = absurd (o refl)
+fers-refuses (Cut burns new) o = refl
 fers-refuses (NotErased number burns) o = refl
 
 accepted-refuses : (command : Command) (image marks request : List ℕ) (s : State) → known command ≡ true → OnlyRefused (accepted command image marks request s .told)

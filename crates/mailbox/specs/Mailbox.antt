@@ -1,4 +1,4 @@
--- Document 01, "Mailbox" and "Refusal numbers", and requests P5 and P6: what a call does, and what it leaves. Assumes nothing.
+-- Document 01, "Mailbox" and "Refusal numbers", and requests P5, P6 and P8: what a call does, and what it leaves. Assumes nothing.
 use Prim.Native.Nat.{ℕ}
 use mathlib.Core.Path.{_≡_}
 use mathlib.Core.Bool.{Bool, true, false, cond, not, _&&_, _||_}
@@ -19,7 +19,7 @@ use Rattle.codec.specs.declared.Numbers.{Numbers}
 use Rattle.codec.specs.declared.Command.{Command}
 use Rattle.codec.specs.declared.Command.the-variants.{Clkc, Klod, Kunl, Fers, Fsta, Ehdl, Rhpk, Unknown}
 use Rattle.codec.specs.Fields.{commandOf, Cmd-timeout, Partition, Hpke-handle, requestFields, responseFields, lengthOf, numberAt, tagAt, mekAt}
-use Rattle.codec.specs.Fields.{noNumbers, oneNumber, twoNumbers, responseIn, leastRoom}
+use Rattle.codec.specs.Fields.{noNumbers, oneNumber, twoNumbers, threeNumbers, responseIn, leastRoom}
 use Rattle.codec.specs.Request.{requestTests}
 use Rattle.engine.specs.Engine.{engineBlock}
 use Rattle.engine.specs.declared.Order.{Order}
@@ -58,11 +58,12 @@ unloadOf context request =
     let tag : ℕ = tagAt (requestFields Kunl) request in
     effect Kunl (Unload (lowestPlace (cacheOf context) (Tag tag)) (numberAt (requestFields Kunl) Cmd-timeout request)) tag noNumbers
 
--- FERS, by what its erasure answers: "short pairs, first short cell", or refusal 15. It is not cut: no order reaches its cut
+-- FERS, by what its erasure answers: "short pairs, first short cell" and, by request P8, the fuses newly set "as a last field"; or refusal 15.
+-- It is not cut: no order reaches its cut
 abbrev pub fersOf : Answer → Effect
-fersOf (Ended short first burns) = effect Fers Nothing 0 (twoNumbers short first)
+fersOf (Ended short first burns new) = effect Fers Nothing 0 (threeNumbers short first new)
 fersOf (NotErased number burns) = refused number
-fersOf (Cut burns) = refused 15
+fersOf (Cut burns new) = refused 15
 
 -- "HEK available 1 or 0"
 abbrev pub hekNumber : ActiveSlot → ℕ

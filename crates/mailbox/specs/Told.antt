@@ -31,8 +31,8 @@ use Rattle.engine.specs.declared.Order.{Order}
 use Rattle.engine.specs.declared.Order.the-variants.{Nothing, Clear, Load, Unload}
 use Rattle.codec.specs.declared.Command.{Command}
 use Rattle.codec.specs.declared.Command.the-variants.{Clkc, Klod, Kunl, Fers, Fsta, Ehdl, Rhpk, Unknown}
-use Rattle.codec.specs.Fields.{known, Place, Short-pairs, First-short, Active-slot, Hek-available, requestFields, responseFields, numberAt, tagAt}
-use Rattle.codec.specs.Fields.{codeOf, commandOf, noNumbers, oneNumber, twoNumbers}
+use Rattle.codec.specs.Fields.{known, Place, Short-pairs, First-short, New-fuses, Active-slot, Hek-available, requestFields, responseFields, numberAt, tagAt}
+use Rattle.codec.specs.Fields.{codeOf, commandOf, noNumbers, oneNumber, twoNumbers, threeNumbers}
 use Rattle.codec.specs.Request.{requestTests}
 use Rattle.codec.specs.Laws.{response-reads}
 use Rattle.mailbox.specs.declared.effects.Effect.{Effect}
@@ -48,12 +48,14 @@ pub place-reads : (context request response : List ℕ)
     → let e = loadOf context request in numberAt (responseFields Klod (e .numbers)) Place (responseAfter e response) ≡ lowestPlace (cacheOf context) Empty
 place-reads context request response = response-reads Klod (oneNumber (lowestPlace (cacheOf context) Empty)) _ Place refl
 
-pub ended-reads : (short first burns : ℕ) (response : List ℕ)
-    → let e = fersOf (Ended short first burns) in
+pub ended-reads : (short first burns new : ℕ) (response : List ℕ)
+    → let e = fersOf (Ended short first burns new) in
     (numberAt (responseFields Fers (e .numbers)) Short-pairs (responseAfter e response) ≡ short)
     × (numberAt (responseFields Fers (e .numbers)) First-short (responseAfter e response) ≡ first)
-ended-reads short first burns response =
-    (response-reads Fers (twoNumbers short first) _ Short-pairs refl, response-reads Fers (twoNumbers short first) _ First-short refl)
+    × (numberAt (responseFields Fers (e .numbers)) New-fuses (responseAfter e response) ≡ new)
+ended-reads short first burns new response =
+    let numbers = threeNumbers short first new in
+    (response-reads Fers numbers _ Short-pairs refl, response-reads Fers numbers _ First-short refl, response-reads Fers numbers _ New-fuses refl)
 
 pub slot-reads : (slot : ActiveSlot) (response : List ℕ)
     → let e = statusOf slot in
@@ -140,13 +142,13 @@ module _ (image marks request : List ℕ) (l : Lent) where
   abbrev FersLeaves : Outcome Effect (List ℕ) → Type 0
   FersLeaves d = (n : ℕ) (order : Order) → replyOf (d .told) ≡ Accepted n order → LeftAsRead (responseAfter (d .told) (l .response)) (d .after)
 
-  read-back : (short first burns : ℕ) (cells : List ℕ) → LeftBy (indicatorCell image p) short first (surveyAt image cells p)
-      → LeftAsRead (responseAfter (fersOf (Ended short first burns)) (l .response)) cells
-  read-back short first burns cells h = let read = ended-reads short first burns (l .response) in rw (read .0, read .1) h
+  read-back : (short first burns new : ℕ) (cells : List ℕ) → LeftBy (indicatorCell image p) short first (surveyAt image cells p)
+      → LeftAsRead (responseAfter (fersOf (Ended short first burns new)) (l .response)) cells
+  read-back short first burns new cells h = let read = ended-reads short first burns new (l .response) in rw (read .0, read .1) h
 
   by-end : (end : End) (t : Tally) → LeftAs image p (answerBy end image p t) (t .cells)
       → FersLeaves (telling fersOf (outcome (answerBy end image p t) (t .cells)))
-  by-end Whole t h n order e = read-back _ _ (t .burns) _ h
+  by-end Whole t h n order e = read-back _ _ (t .burns) (t .new) _ h
   by-end Stopped t h n order e = refused-not e
   by-end CutEnd t h n order e = refused-not e
 
@@ -184,9 +186,9 @@ module _ (image marks : List ℕ) (code : ℕ) (request : List ℕ) (l : Lent) w
   no-unload n cells = cond-keeps (UnloadsHeld c (tagAt (requestFields Kunl) request)) (eqb n 0) (Accepted _ Nothing) (Refused n) (λ _. tt) (λ _. tt)
 
   fers-no-unload : (answer : Answer) (cells : List ℕ) → FindsHeld (outcome (fersOf answer) cells)
-  fers-no-unload (Ended short first burns) cells = tt
+  fers-no-unload (Ended short first burns new) cells = tt
   fers-no-unload (NotErased number burns) cells = no-unload number cells
-  fers-no-unload (Cut burns) cells = tt
+  fers-no-unload (Cut burns new) cells = tt
 
   finds-held : (command : Command) → known command ≡ true → ((k : ℕ) → testAt (ownTests command image request (l .state)) k ≡ false)
       → FindsHeld (accepted command image marks request (l .state))

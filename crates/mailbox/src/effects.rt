@@ -95,14 +95,15 @@ fn fers_effect(answer: Answer) -> Effect
             short,
             first,
             burns: _,
+            new,
         } => effect_with(
             Command::Fers,
             Order::Nothing,
             0,
-            codec::two_numbers(short, first),
+            codec::three_numbers(short, first, new),
         ),
         Answer::Refused { number, burns: _ } => refuse(number),
-        Answer::Cut { burns: _ } => refuse(15),
+        Answer::Cut { burns: _, new: _ } => refuse(15),
     }
 }
 

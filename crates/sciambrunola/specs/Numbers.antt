@@ -22,7 +22,7 @@ use Rattle.reason.specs.declared.Reason.the-variants.{Available, NoSlot, AllEra
 use Rattle.states.specs.declared.Listing.{Listing}
 use Rattle.states.specs.declared.Listing.the-variants.{Listed, Refused as NotListed}
 use Rattle.direct.specs.declared.Answer.{Answer}
-use Rattle.direct.specs.declared.Answer.the-variants.{Word, Done, Withheld, Refused as RefusedAnswer}
+use Rattle.direct.specs.declared.Answer.the-variants.{Word, Burned, Done, Withheld, Refused as RefusedAnswer}
 use Rattle.erasure.specs.declared.Answer.{Answer as Erasure}
 use Rattle.erasure.specs.declared.Answer.the-variants.{Ended, Cut, Refused as RefusedErasure}
 use Rattle.mailbox.specs.declared.Reply.{Reply}
@@ -76,19 +76,21 @@ placeNumbers (Held tag) = record { kind = 1; tag = tag }
 placeNumbers (Waiting tag) = record { kind = 2; tag = tag }
 placeNumbers (Unsure tag) = record { kind = 3; tag = tag }
 
--- "the answer is a word, done, withheld, or refused with its number"
+-- "the answer is a word, done, withheld, or refused with its number"; by request P8 a word that was burned has the fuses newly set beside
+-- it, and where an answer has no such number it is 0
 abbrev pub answerNumbers : Answer → SciAnswer
-answerNumbers (Word word) = record { kind = 0; refusal = 0; word = word }
-answerNumbers Done = record { kind = 1; refusal = 0; word = 0 }
-answerNumbers Withheld = record { kind = 2; refusal = 0; word = 0 }
-answerNumbers (RefusedAnswer number) = record { kind = 3; refusal = number; word = 0 }
+answerNumbers (Word word) = record { kind = 0; refusal = 0; word = word; new = 0 }
+answerNumbers (Burned word new) = record { kind = 0; refusal = 0; word = word; new = new }
+answerNumbers Done = record { kind = 1; refusal = 0; word = 0; new = 0 }
+answerNumbers Withheld = record { kind = 2; refusal = 0; word = 0; new = 0 }
+answerNumbers (RefusedAnswer number) = record { kind = 3; refusal = number; word = 0; new = 0 }
 
 -- "the number of short pairs .. and the first cell of the lowest one .. and the number of burns"; "it was cut and the burns carried out";
--- refused, and "one burn is reported" for 15
+-- refused, and "one burn is reported" for 15. Request P8: "erasures add it up, cut ones included", and a refusal reports 0
 abbrev pub erasureNumbers : Erasure → SciErasure
-erasureNumbers (Ended short first burns) = record { kind = 0; refusal = 0; short = short; first = first; burns = burns }
-erasureNumbers (Cut burns) = record { kind = 1; refusal = 0; short = 0; first = 0; burns = burns }
-erasureNumbers (RefusedErasure number burns) = record { kind = 2; refusal = number; short = 0; first = 0; burns = burns }
+erasureNumbers (Ended short first burns new) = record { kind = 0; refusal = 0; short = short; first = first; burns = burns; new = new }
+erasureNumbers (Cut burns new) = record { kind = 1; refusal = 0; short = 0; first = 0; burns = burns; new = new }
+erasureNumbers (RefusedErasure number burns) = record { kind = 2; refusal = number; short = 0; first = 0; burns = burns; new = 0 }
 
 -- "none, or clear with the timeout, or load or unload with place and timeout"
 abbrev pub orderNumbers : (length : ℕ) → Order → SciReply

@@ -50,12 +50,14 @@ pub struct SciPlace {
     pub tag: u64,
 }
 
-// A direct command's answer. kind: 0 a word, 1 done, 2 withheld, 3 refused.
+// A direct command's answer. kind: 0 a word, 1 done, 2 withheld, 3 refused. new: the fuses newly set, 0
+// where the answer has no such number.
 #[repr(C)]
 pub struct SciAnswer {
     pub kind: u32,
     pub refusal: u32,
     pub word: u64,
+    pub new: u32,
 }
 
 // An erasure's answer. kind: 0 ended (the partition is erased exactly if `short` is 0 or `first` is its
@@ -67,6 +69,7 @@ pub struct SciErasure {
     pub short: u32,
     pub first: u32,
     pub burns: u32,
+    pub new: u32,
 }
 
 // The mailbox's answer. order: 0 none, 1 clear, 2 load, 3 unload.
@@ -174,21 +177,31 @@ pub fn flat_answer(answer: Answer) -> SciAnswer
             kind: 0,
             refusal: 0,
             word: word,
+            new: 0,
+        },
+        Answer::Burned { word, new } => SciAnswer {
+            kind: 0,
+            refusal: 0,
+            word: word,
+            new: new,
         },
         Answer::Done => SciAnswer {
             kind: 1,
             refusal: 0,
             word: 0,
+            new: 0,
         },
         Answer::Withheld => SciAnswer {
             kind: 2,
             refusal: 0,
             word: 0,
+            new: 0,
         },
         Answer::Refused(number) => SciAnswer {
             kind: 3,
             refusal: number,
             word: 0,
+            new: 0,
         },
     }
 }
@@ -202,19 +215,22 @@ pub fn flat_erasure(answer: Erasure) -> SciErasure
             short,
             first,
             burns,
+            new,
         } => SciErasure {
             kind: 0,
             refusal: 0,
             short: short,
             first: first,
             burns: burns,
+            new: new,
         },
-        Erasure::Cut { burns } => SciErasure {
+        Erasure::Cut { burns, new } => SciErasure {
             kind: 1,
             refusal: 0,
             short: 0,
             first: 0,
             burns: burns,
+            new: new,
         },
         Erasure::Refused { number, burns } => SciErasure {
             kind: 2,
@@ -222,6 +238,7 @@ pub fn flat_erasure(answer: Erasure) -> SciErasure
             short: 0,
             first: 0,
             burns: burns,
+            new: 0,
         },
     }
 }

@@ -1,8 +1,8 @@
 /* Document 01, "The small drive", from C: the direct commands, which the example does not
  * show, and every field of their answers, of a mailbox's reply, an erasure that is refused and
- * one that ends with a short indicator and, by document 02, P1, P2, P5, P6 and P7, of reasons, of
- * maps that are written, of a place after each reply of the engine, of a table of handles, and of
- * ZEROIZE on the older guide. */
+ * one that ends with a short indicator and, by document 02, P1, P2 and P5 to P8, of reasons, of
+ * maps that are written, of a place after each reply of the engine, of a table of handles, of
+ * ZEROIZE on the older guide, and of new fuses. */
 #include "sciambrunola.h"
 
 #include <inttypes.h>
@@ -42,8 +42,8 @@ static void print_bytes(const uint8_t *bytes, size_t count)
 
 static void print_answer(const char *name, sci_answer answer)
 {
-    printf("%s: kind %" PRIu32 ", refusal %" PRIu32 ", word %" PRIu64 "\n", name,
-           answer.kind, answer.refusal, answer.word);
+    printf("%s: kind %" PRIu32 ", refusal %" PRIu32 ", word %" PRIu64 ", new fuses %" PRIu32
+           "\n", name, answer.kind, answer.refusal, answer.word, answer.new_fuses);
 }
 
 /* A board on the older guide, with stuck fuses in cells 1, 3 and 7. */
@@ -70,8 +70,8 @@ static void print_older(void)
 static void print_erasure(sci_erasure erasure)
 {
     printf("erasure: kind %" PRIu32 ", refusal %" PRIu32 ", short %" PRIu32 ", first %" PRIu32
-           ", burns %" PRIu32 "\n", erasure.kind, erasure.refusal, erasure.short_pairs,
-           erasure.first_short, erasure.burns);
+           ", burns %" PRIu32 ", new fuses %" PRIu32 "\n", erasure.kind, erasure.refusal,
+           erasure.short_pairs, erasure.first_short, erasure.burns, erasure.new_fuses);
 }
 
 static void print_reason(const char *name, const uint32_t *these, size_t count)
@@ -189,6 +189,7 @@ static void print_map(const char *text, size_t room)
 int main(void)
 {
     print_answer("READ 0", sci_read(DRIVE, 0));
+    print_answer("WRITE 7", sci_write(DRIVE, 7, 0x81));
     print_answer("WRITE 7", sci_write(DRIVE, 7, 0x89));
     print_answer("READ 7", sci_read(DRIVE, 7));
     print_answer("WRITE 0", sci_write(DRIVE, 0, 5));

@@ -70,8 +70,10 @@ impl KeyBlock for Archive {
     fn answer(&mut self, lent: &mut Lent, call: &Call) -> Said {
         let mut context = context::of(lent);
         let (function, words) = arguments(lent, &mut context, call);
-        let large =
-            matches!(call, Call::Partition(_) | Call::Why | Call::Erase(_) | Call::Mailbox(_));
+        let large = matches!(
+            call,
+            Call::Partition(_) | Call::Why | Call::Direct(_) | Call::Erase(_) | Call::Mailbox(_)
+        );
         // SAFETY: every pointer is that of a part of `lent`, of the context, of the request,
         // of the text or of the handles, which outlive the call and overlap nowhere; where the
         // header asks for a count, it follows.
@@ -173,7 +175,6 @@ fn said(call: &Call, told: [u32; 8]) -> Said {
         3 => Order::Unload { place, timeout },
         _ => panic!("{call} is answered {told:X?}"),
     };
-    let word = |low, high| u64::from(low) | u64::from(high) << 32;
     match (call, told) {
         (Call::Partition(_), _) => Said::Fields(told),
         // Between a place's kind and its tag are four bytes of no meaning.
@@ -184,24 +185,42 @@ fn said(call: &Call, told: [u32; 8]) -> Said {
         (Call::EngineReply(_), [number, ..]) => Said::Taken(unless_refused(number)),
         (Call::MakeTable { .. }, [number, ..]) => Said::Made(unless_refused(number)),
         (Call::Restart, _) => Said::Nothing,
-        (Call::Direct(_), [0, 0, low, high, ..]) => Said::Answer(Answer::Word(word(low, high))),
-        (Call::Direct(_), [1, 0, 0, 0, ..]) => Said::Answer(Answer::Done),
-        (Call::Direct(_), [2, 0, 0, 0, ..]) => Said::Answer(Answer::Withheld),
-        (Call::Direct(_), [3, number, 0, 0, ..]) => Said::Answer(Answer::Refused(number)),
-        (Call::Erase(_), [0, 0, short_pairs, first, burns, ..]) => {
-            let first_short = (first != NO_CELL).then_some(first);
-            Said::Erasure(Erasure::Erased { short_pairs, first_short, burns })
-        }
-        (Call::Erase(_), [1, 0, 0, 0, burns, ..]) => Said::Erasure(Erasure::Cut { burns }),
-        (Call::Erase(_), [2, number, 0, 0, burns, ..]) => {
-            Said::Erasure(Erasure::Refused { number, burns })
-        }
+        (Call::Direct(_), _) => Said::Answer(answer(told)),
+        (Call::Erase(_), _) => Said::Erasure(erasure(told)),
         (Call::Mailbox(_), [0, length, which, place, timeout, ..]) => {
             let (length, order) = (length as usize, order(which, place, timeout));
             Said::Reply(Reply::Accepted { length, order })
         }
         (Call::Mailbox(_), [number, 0, 0, 0, 0, ..]) => Said::Reply(Reply::Refused(number)),
         _ => panic!("{call} is answered {told:X?}"),
+    }
+}
+
+fn word(low: u32, high: u32) -> u64 {
+    u64::from(low) | u64::from(high) << 32
+}
+
+/// The same of a direct command, whose last number has four bytes of no meaning behind it.
+fn answer(told: [u32; 8]) -> Answer {
+    match told {
+        [0, 0, low, high, new_fuses, ..] => Answer::Word { word: word(low, high), new_fuses },
+        [1, 0, 0, 0, 0, ..] => Answer::Done,
+        [2, 0, 0, 0, 0, ..] => Answer::Withheld,
+        [3, number, 0, 0, 0, ..] => Answer::Refused(number),
+        _ => panic!("a direct command is answered {told:X?}"),
+    }
+}
+
+/// The same of an erasure.
+fn erasure(told: [u32; 8]) -> Erasure {
+    match told {
+        [0, 0, short_pairs, first, burns, new_fuses, ..] => {
+            let first_short = (first != NO_CELL).then_some(first);
+            Erasure::Erased { short_pairs, first_short, burns, new_fuses }
+        }
+        [1, 0, 0, 0, burns, new_fuses, ..] => Erasure::Cut { burns, new_fuses },
+        [2, number, 0, 0, burns, 0, ..] => Erasure::Refused { number, burns },
+        _ => panic!("an erasure is answered {told:X?}"),
     }
 }
 

@@ -1,6 +1,7 @@
 //! Calls of a key block compared with the model's: any two sides of one call, and generated calls
 //! in sequences on one drive.
 
+mod charge;
 pub mod commands;
 mod handles;
 mod met;

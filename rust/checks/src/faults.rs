@@ -1,22 +1,24 @@
 //! Copies of the model with one fault each, for the tests of the tests: one for each thing that a
 //! comparison looks at, for each clause of a history one that breaks it, wrong states, reasons and
-//! maps, wrong places, orders and replies, wrong tables and handles, and wrong ZEROIZEs. That
-//! the proofs refuse faults of the key block itself is shown by the edits in `crates/*/must-fail`.
+//! maps, wrong places, orders and replies, wrong tables and handles, wrong ZEROIZEs, and wrong
+//! numbers of new fuses. That the proofs refuse faults of the key block itself is shown by the
+//! edits in `crates/*/must-fail`.
 
+mod charge;
 mod engine;
+mod erasures;
 mod guides;
 mod handles;
 mod made;
 mod maps;
 
-pub use made::{of_engine, of_guides, of_handles};
+pub use made::{of_charge, of_engine, of_guides, of_handles, of_sums};
 pub use maps::OF_MAPS;
 
 use crate::layout::Layout;
 use model::Reason::{AllErased, Available, Blank, NoSlot, Torn};
-use model::{Answer, Awaited, Call, Command, Cut, Drive, Erase, Erasure, KeyBlock, Lent, Model};
-use model::{Place, Reason, Reply, Said, State, Table};
-use std::ops::Range;
+use model::{Answer, Awaited, Call, Command, Cut, Drive, Erase, KeyBlock, Lent, Model};
+use model::{Reason, Reply, Said, State};
 
 /// Faults by how their difference from the model is told.
 pub const OF_COMPARISONS: [&str; 20] = [
@@ -91,9 +93,8 @@ impl KeyBlock for Faulty {
             return said;
         }
         let faulty = match (call, said) {
-            (Call::Erase(Erase { partition, cut }), Said::Erasure(erasure)) => {
-                let partition = Layout::of(&before.drive, *partition);
-                self.erased(erasure, partition, cut.is_some(), &before, lent).map(Said::Erasure)
+            (Call::Erase(erase), Said::Erasure(erasure)) => {
+                Some(Said::Erasure(erasures::erased(self.0, *erase, erasure, &before, lent)))
             }
             (_, Said::Reply(Reply::Accepted { length, .. })) => self.replied(length, &before, lent),
             (Call::WriteMap(text), Said::Written(written)) => {
@@ -133,74 +134,8 @@ impl Faulty {
         }
     }
 
-    /// What is said of an erasure, none if it is right; what it left is changed.
-    fn erased(
-        &self,
-        right: Erasure,
-        partition: Option<Layout>,
-        late: bool,
-        before: &Lent,
-        lent: &mut Lent,
-    ) -> Option<Erasure> {
-        use Erasure::{Cut, Erased, Refused};
-        let (cells, before) = (&mut lent.drive.cells, &before.drive.cells);
-        let Range { start, end } = partition.as_ref().map_or(0..0, |p| p.range.clone());
-        let weak = partition.as_ref().map_or(false, |p| p.weakly_marked(cells));
-        match (self.0, right) {
-            ("a cut at the indicator burns data", Cut { burns: 1 }) => cells[start] |= 2,
-            ("a cut does nothing", Cut { .. }) => cells.clone_from(before),
-            ("the table emptied by a cut", Cut { .. }) => lent.table = Table::default(),
-            ("k burns counted in a cut at k", Cut { burns }) => {
-                return Some(Cut { burns: burns - 1 })
-            }
-            ("a cut past the end answers that it was cut", Erased { burns, .. }) if late => {
-                return Some(Cut { burns });
-            }
-            ("a fuse behind the partition burned", Erased { .. }) => set(&mut cells[end..]),
-            ("a fuse of the partition cleared", Erased { .. }) => cells[start] &= !1,
-            ("the digest left out", Erased { .. }) => {
-                cells[end - 4..end - 2].copy_from_slice(&before[end - 4..end - 2]);
-            }
-            ("no burn counted once a cell is burned", Erased { short_pairs, first_short, .. }) => {
-                let none = Erased { short_pairs, first_short, burns: 0 };
-                return (before[start] == u32::MAX).then_some(none);
-            }
-            ("no such partition or not zeroizable: accepted", Refused { number: 7 | 8, .. }) => {
-                return Some(Erased { short_pairs: 0, first_short: None, burns: 0 });
-            }
-            ("an erasure that is refused burns" | "cell 0: ", Refused { .. }) => set(cells),
-            ("the answer: the model says Erasure(", Erased { first_short: Some(0), .. }) => {
-                return Some(Cut { burns: 0 });
-            }
-            ("a key held after an erasure" | "place 15: ", Erased { .. }) => {
-                lent.cache.places[15] = Place::Held(0);
-            }
-            ("a reply awaited after an erasure", Erased { .. }) => {
-                lent.cache.awaited = Some(Awaited::Clear);
-            }
-            // Document 01's rule, which left the indicator burned.
-            ("15 for a short indicator", Erased { .. }) if weak => {
-                cells[start..end - 2].copy_from_slice(&before[start..end - 2]);
-                return Some(Refused { number: 15, burns: 1 });
-            }
-            ("no 15 for an indicator without a set fuse", Refused { number: 15, .. }) => {
-                set(&mut cells[start..end - 2]);
-                return Some(Erased {
-                    short_pairs: 1,
-                    first_short: Some(end as u32 - 2),
-                    burns: 3,
-                });
-            }
-            ("an erasure tells its last short pair", Erased { short_pairs, burns, .. }) => {
-                let last = partition?.short_pairs(cells).last().map(|(first, _)| first as u32);
-                return Some(Erased { short_pairs, first_short: last, burns });
-            }
-            _ => {}
-        }
-        None
-    }
-
-    /// The same for the mailbox, where a command was carried out.
+    /// What is said of a mailbox command that was carried out, none if it is right; what it left is
+    /// changed.
     fn replied(&self, length: usize, before: &Lent, lent: &mut Lent) -> Option<Said> {
         match self.0 {
             "the answer: the model says Reply(" => return Some(Said::Reply(Reply::Refused(99))),

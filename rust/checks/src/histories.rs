@@ -1,13 +1,14 @@
-//! Demand 3: lists of attempts to erase one partition, and of restarts, which are generated.
+//! Demand 3: lists of attempts to erase one partition, and of restarts, which are generated; and
+//! P8's sum of the fuses that they newly set.
 //!
-//! Document 01, "Erasing a partition", says what an attempt is and what holds after each. The clauses
-//! are checked on the values that a key block gives and leaves, not by the model; that every call is
-//! the model's is checked besides.
+//! Document 01, "Erasing a partition", says what an attempt is and what holds after each. The
+//! clauses are checked on the values that a key block gives and leaves, not by the model; that
+//! every call is the model's is checked besides.
 
 mod clauses;
 mod play;
 
-pub use clauses::names;
+pub use clauses::{names, SUM};
 pub use play::{all_hold, broken_clauses, possible};
 
 use crate::calls::{commands, requests};

@@ -1,4 +1,5 @@
-//! Drives with the largest map: 16 partitions, 2,048 cells and an image of 256 bytes.
+//! Drives with the largest map: 16 partitions, 2,048 cells and an image of 256 bytes; and with the
+//! largest partition.
 
 use crate::maps::MOST_CELLS;
 use crate::random::Random;
@@ -53,6 +54,13 @@ pub fn first_no_slot(kind: u8) -> Drive {
     image.entries[0] = entry(0, SHARE as u16, kind, ZEROIZABLE);
     drive.cells[..SHARE].fill(0);
     Drive { image: image.bytes(), ..drive }
+}
+
+/// One partition of this kind in all 2,048 cells; no fuse is set, and none stuck.
+pub fn one_partition(kind: u8, flags: u8) -> Drive {
+    let entries = vec![entry(0, MOST_CELLS as u16, kind, flags)];
+    let image = Image { cells: MOST_CELLS as u16, bound: 60, entries_at: 8, entries };
+    Drive { image: image.bytes(), cells: vec![0; MOST_CELLS], marks: vec![0; MOST_CELLS] }
 }
 
 /// Every slot is erased but the last, which is torn, its digest alone short: its lowest

@@ -3,7 +3,7 @@
 //! Of the model only the map is used, its rules and its fields, and nothing that burns or counts:
 //! what is found with a layout is found whatever the model says of fuses.
 
-use model::{Drive, Entry, Map, SOFTWARE};
+use model::{Cut, Drive, Entry, Map, SOFTWARE};
 use std::iter;
 use std::ops::Range;
 
@@ -65,6 +65,17 @@ impl Layout {
         iter::once(indicator).chain(data).chain(iter::once(digest)).collect()
     }
 
+    /// The cells that an erasure burns, in its order, each with what is burned into it: "the first
+    /// k burns are whole, the burn numbered k has the mask (its low 32 bits for a 32-bit word) in
+    /// place of all ones, nothing follows".
+    pub fn burned(&self, cut: Option<Cut>) -> Vec<(usize, u32)> {
+        let last = cut.map_or(usize::MAX, |cut| cut.k as usize);
+        let words = self.order().into_iter().enumerate().take_while(|(number, _)| *number <= last);
+        let mask = cut.map_or(u64::MAX, |cut| cut.mask);
+        let value = |number| if number < last { u64::MAX } else { mask };
+        words.flat_map(|(number, word)| halves(word, value(number))).collect()
+    }
+
     /// The ones of the indicator in these cells, or in the marks.
     pub fn indicator_ones(&self, cells: &[u32]) -> u32 {
         ones(&cells[self.indicator()])
@@ -110,6 +121,27 @@ impl Layout {
     }
 }
 
-fn ones(cells: &[u32]) -> u32 {
+/// The ones of any cells.
+pub fn ones(cells: &[u32]) -> u32 {
     cells.iter().map(|cell| cell.count_ones()).sum()
+}
+
+/// The cells of a word, each with its part of a value: "low half first".
+pub fn halves(word: Range<usize>, value: u64) -> impl Iterator<Item = (usize, u32)> {
+    word.enumerate().map(move |(half, cell)| (cell, (value >> (32 * half)) as u32))
+}
+
+/// Whether some fuse of these cells is neither set nor stuck.
+pub fn would_burn(drive: &Drive, mut cells: Range<usize>) -> bool {
+    cells.any(|cell| drive.cells[cell] | drive.marks[cell] != u32::MAX)
+}
+
+/// Whether some fuse of these cells is stuck, and not set.
+pub fn is_stuck(drive: &Drive, mut cells: Range<usize>) -> bool {
+    cells.any(|cell| drive.marks[cell] & !drive.cells[cell] != 0)
+}
+
+/// Whether a burn of this word set some of its fuses, and left others that would burn.
+pub fn is_burned_in_part([before, after]: [&Drive; 2], word: Range<usize>) -> bool {
+    before.cells[word.clone()] != after.cells[word.clone()] && would_burn(after, word)
 }

@@ -118,7 +118,7 @@ pub fn handed(reply: EngineReply) -> proved::EngineReply {
 
 fn answer_of(answer: proved::Answer) -> Answer {
     match answer {
-        proved::Answer::Word(word) => Answer::Word(word),
+        proved::Answer::Word { word, new_fuses } => Answer::Word { word, new_fuses },
         proved::Answer::Done => Answer::Done,
         proved::Answer::Withheld => Answer::Withheld,
         proved::Answer::Refused(number) => Answer::Refused(number),
@@ -127,10 +127,10 @@ fn answer_of(answer: proved::Answer) -> Answer {
 
 fn erasure_of(erasure: proved::Erasure) -> Erasure {
     match erasure {
-        proved::Erasure::Ended { short_pairs, first_short, burns } => {
-            Erasure::Erased { short_pairs, first_short, burns }
+        proved::Erasure::Ended { short_pairs, first_short, burns, new_fuses } => {
+            Erasure::Erased { short_pairs, first_short, burns, new_fuses }
         }
-        proved::Erasure::Cut { burns } => Erasure::Cut { burns },
+        proved::Erasure::Cut { burns, new_fuses } => Erasure::Cut { burns, new_fuses },
         proved::Erasure::Refused { number, burns } => Erasure::Refused { number, burns },
     }
 }

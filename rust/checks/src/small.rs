@@ -61,11 +61,13 @@ pub fn response(lent: &Lent, length: usize) -> Vec<u32> {
 /// What an erasure or the mailbox said.
 pub fn text(said: Said) -> String {
     let (length, order) = match said {
-        Said::Erasure(Erasure::Erased { short_pairs, first_short, burns }) => {
+        Said::Erasure(Erasure::Erased { short_pairs, first_short, burns, new_fuses }) => {
             let first = first_short.map_or(String::new(), |cell| format!(", first {cell}"));
-            return format!("short {short_pairs}{first}, burns {burns}");
+            return format!("short {short_pairs}{first}, burns {burns}, new fuses {new_fuses}");
         }
-        Said::Erasure(Erasure::Cut { burns }) => return format!("cut, burns {burns}"),
+        Said::Erasure(Erasure::Cut { burns, new_fuses }) => {
+            return format!("cut, burns {burns}, new fuses {new_fuses}");
+        }
         Said::Erasure(Erasure::Refused { number, burns }) => {
             return format!("refused {number}, burns {burns}");
         }

@@ -1,37 +1,39 @@
 //! Callers. A C program is compiled with every warning an error, linked and run; its lines are
 //! written from the documents. Every fuse of the indicator is stuck: it stops an erasure, so that
-//! the slot is still programmed and its HEK available. On another drive, with the mark 1F on cell 5
-//! instead, ZEROIZE gives the indicator 59 ones, one below the bound, and withholds it; the erasure
-//! that follows ends with that pair short. On a board on the older guide a secret pair of 60 ones
-//! is told as 64, one of 59 is withheld, and a word of one cell that lacks five is told as 32.
-//! Other cells have the indicator set and three fuses of
-//! the digest: they are torn. EHDL is refused while there is no table. No table is made of no
-//! handle, of four, of two that are equal, or of handles that are not as many as their algorithms;
-//! then one is made, and a second is refused. Its first handle is two below the last number: two
-//! rotations use the numbers up. A key is loaded, and the engine's reply to it handed in twice;
-//! then the cache is cleared again and again, with every other reply first, numbers that are no
-//! reply among them, which count as failed, and with done last. The maps are the header's two
-//! texts, then one with too little room, one without its last line feed, and one with a slot that
-//! is not secret. A program that drops an erasure's answer is warned by its compiler, in C and in
-//! Rust: an erasure that ended is not yet an erased partition.
+//! the slot is still programmed and its HEK available. On another drive, with the mark 1F on cell
+//! 5 instead, ZEROIZE gives the indicator 59 ones, one below the bound, and withholds it; the
+//! erasure that follows ends with that pair short. On a board on the older guide a secret pair of
+//! 60 ones is told as 64, one of 59 is withheld, and a word of one cell that lacks five is told as
+//! 32, of which 27 fuses are new. A secret word's are not told; those of the erasure are, 63 of
+//! word 0 and 64 of the digest, since the indicator's were set before. Other cells have the
+//! indicator set and three fuses of the digest: they are torn. EHDL is refused while there is no
+//! table. No table is made of no handle, of four, of two that are equal, or of handles that are
+//! not as many as their algorithms; then one is made, and a second is refused. Its first handle is
+//! two below the last number: two rotations use the numbers up. A key is loaded, and the engine's
+//! reply to it handed in twice; then the cache is cleared again and again, with every other reply
+//! first, numbers that are no reply among them, which count as failed, and with done last. The
+//! maps are the header's two texts, then one with too little room, one without its last line feed,
+//! and one with a slot that is not secret. A program that drops an erasure's answer is warned by
+//! its compiler, in C and in Rust: an erasure that ended is not yet an erased partition.
 
 use checks::runner::{compiled, in_repository, run};
 use std::path::{Path, PathBuf};
 use std::process::Command;
 
 const WORDS: &str = "\
-READ 0: kind 3, refusal 8, word 0
-WRITE 7: kind 0, refusal 0, word 137
-READ 7: kind 0, refusal 0, word 137
-WRITE 0: kind 1, refusal 0, word 0
-ZEROIZE 4: kind 2, refusal 0, word 0
-ZEROIZE 6: kind 3, refusal 8, word 0
-older guide, ZEROIZE: kind 0, refusal 0, word 18446744073709551615
-older guide, ZEROIZE: kind 2, refusal 0, word 0
-older guide, ZEROIZE: kind 0, refusal 0, word 4294967295
+READ 0: kind 3, refusal 8, word 0, new fuses 0
+WRITE 7: kind 0, refusal 0, word 129, new fuses 2
+WRITE 7: kind 0, refusal 0, word 137, new fuses 1
+READ 7: kind 0, refusal 0, word 137, new fuses 0
+WRITE 0: kind 1, refusal 0, word 0, new fuses 0
+ZEROIZE 4: kind 2, refusal 0, word 0, new fuses 0
+ZEROIZE 6: kind 3, refusal 8, word 0, new fuses 0
+older guide, ZEROIZE: kind 0, refusal 0, word 18446744073709551615, new fuses 0
+older guide, ZEROIZE: kind 2, refusal 0, word 0, new fuses 0
+older guide, ZEROIZE: kind 0, refusal 0, word 4294967295, new fuses 27
 cells 1, 3 and 7: FFFFFFF0 FFFFFFE0 FFFFFFE0
-erasure: kind 2, refusal 15, short 0, first 0, burns 1
-erasure: kind 0, refusal 0, short 1, first 4, burns 3
+erasure: kind 2, refusal 15, short 0, first 0, burns 1, new fuses 0
+erasure: kind 0, refusal 0, short 1, first 4, burns 3, new fuses 127
 EHDL: refusal 2, length 0, order 0, place 0, timeout 0; place 0: kind 0, tag 0
 table of 0, 0: refusal 2
 table of 4, 4: refusal 2

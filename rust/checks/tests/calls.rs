@@ -4,7 +4,7 @@
 
 use checks::archive::Archive;
 use checks::calls;
-use checks::faults::{of_engine, of_guides, of_handles, Faulty};
+use checks::faults::{of_charge, of_engine, of_guides, of_handles, Faulty};
 use checks::faults::{OF_COMPARISONS, OF_HISTORIES, OF_STATES};
 use checks::proved::Proved;
 use checks::tally::Tally;
@@ -49,7 +49,8 @@ fn nothing_is_found_in_a_copy_without_a_fault() {
 #[test]
 fn every_fault_is_found() {
     let of_calls = OF_HISTORIES.into_iter().chain(OF_STATES);
-    for fault in of_calls.chain(of_engine()).chain(of_handles()).chain(of_guides()) {
+    let of_requests = of_engine().chain(of_handles()).chain(of_guides()).chain(of_charge());
+    for fault in of_calls.chain(of_requests) {
         assert!(compare(fault).is_err(), "not found: {fault}");
     }
 }

@@ -4,7 +4,9 @@
 //! an erasure of the slot is refused with 10 in between, and an erased slot is not active. What a
 //! place is before and after each reply of the engine, and what is refused with 17 and 18, is
 //! document 02's P5; why there is no key is its P1. The new number of the handle 1, beside a 2, and
-//! that the restart leaves it, is its P6.
+//! that the restart leaves it, is its P6; the new fuses are its P8: 64 of the indicator and 31 of
+//! word 0 for the cut, 32 of word 0 and 64 of the digest for the last erasure, less those that are
+//! stuck.
 //!
 //! With a stuck mark on cell 1 the last erasure is that of case 3 (0F: 60 of 64
 //! ones, erased) or of case 4 (1F: 59 of 64 ones, short 1, torn), with one on cell 5
@@ -43,7 +45,7 @@ CLKC: clear, timeout 1000
 places: 0 waiting, 1 waiting
 engine: done
 places: all empty
-erasure cut: 2 burns
+erasure cut: 2 burns, CUT new fuses
 restart
 places: all empty
 EHDL: handle 3 algorithm 1, handle 2 algorithm 2
@@ -51,27 +53,27 @@ states: 0 torn, SHORT short; 1 blank, 3 short
 ";
 
 const ERASED: &str = "\
-erasure: 0 short, 3 burns
+erasure: 0 short, 3 burns, NEW new fuses
 states: 0 erased, 0 short; 1 blank, 3 short
 why: every slot is erased
 FSTA: active slot 0xFFFFFFFF, HEK available 0
 ";
 
 const ERASED_WEAKLY: &str = "\
-erasure: 1 short, 3 burns
+erasure: 1 short, 3 burns, NEW new fuses
 states: 0 erased, 1 short; 1 blank, 3 short
 why: every slot is erased
 FSTA: active slot 0xFFFFFFFF, HEK available 0
 ";
 
 const TORN: &str = "\
-erasure: 1 short, 3 burns
+erasure: 1 short, 3 burns, NEW new fuses
 states: 0 torn, 1 short; 1 blank, 3 short
 why: slot 0 is torn, its pair at cell 0 has 59 ones
 ";
 
 const TORN_WEAKLY: &str = "\
-erasure: 2 short, 3 burns
+erasure: 2 short, 3 burns, NEW new fuses
 states: 0 torn, 2 short; 1 blank, 3 short
 why: slot 0 is torn, its pair at cell 0 has 59 ones
 ";
@@ -88,20 +90,24 @@ fn run(program: &Path, arguments: &[&str]) -> Ran {
     (output.status.code(), text(output.stdout), text(output.stderr))
 }
 
-fn ends(status: i32, short_after_cut: &str, end: &str, warning: &str) -> Ran {
-    let beginning = BEGINNING.replace("SHORT", short_after_cut);
-    (Some(status), format!("{beginning}{end}"), warning.to_string())
+/// A run that ends so, with this number of short pairs after the cut, and these of new fuses by the
+/// cut and by the last erasure.
+fn ends(status: i32, [short, cut, new]: [u32; 3], end: &str, warning: &str) -> Ran {
+    let numbers = [("SHORT", short), ("CUT", cut), ("NEW", new)];
+    let put = |text: String, (name, number): (&str, u32)| text.replace(name, &number.to_string());
+    let printed = numbers.into_iter().fold([BEGINNING, end].concat(), put);
+    (Some(status), printed, warning.to_string())
 }
 
 /// Runs an example with no mark, with those of cases 3, 4 and 5, with those of 4 and 5 at once, and
 /// with arguments that are none.
 fn check(program: &Path) {
-    assert_eq!(run(program, &[]), ends(0, "2", ERASED, ""));
-    assert_eq!(run(program, &["0F"]), ends(0, "2", ERASED, ""));
-    assert_eq!(run(program, &["1F"]), ends(1, "2", TORN, WARNING));
-    assert_eq!(run(program, &["0", "0F"]), ends(0, "2", ERASED, ""));
-    assert_eq!(run(program, &["0", "1F"]), ends(0, "3", ERASED_WEAKLY, ""));
-    assert_eq!(run(program, &["1F", "1F"]), ends(1, "3", TORN_WEAKLY, WARNING));
+    assert_eq!(run(program, &[]), ends(0, [2, 95, 96], ERASED, ""));
+    assert_eq!(run(program, &["0F"]), ends(0, [2, 95, 92], ERASED, ""));
+    assert_eq!(run(program, &["1F"]), ends(1, [2, 95, 91], TORN, WARNING));
+    assert_eq!(run(program, &["0", "0F"]), ends(0, [2, 91, 96], ERASED, ""));
+    assert_eq!(run(program, &["0", "1F"]), ends(0, [3, 90, 96], ERASED_WEAKLY, ""));
+    assert_eq!(run(program, &["1F", "1F"]), ends(1, [3, 90, 91], TORN_WEAKLY, WARNING));
     let wrong = ["no mark", "", "100000000", "-1", "+1F", " 1F", "0x1F"];
     let wrong = wrong.into_iter().flat_map(|mark| [vec![mark], vec!["1F", mark]]);
     for wrong in wrong.chain([vec!["1F"; 3]]) {

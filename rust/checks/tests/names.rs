@@ -11,7 +11,7 @@ use std::process::Command;
 
 /// Every name of the header after `SCI_`, in its order, with its number in hexadecimal.
 const HEADER: &str = "\
-VERSION B
+VERSION C
 PLACES 10, HANDLES 3, CONTEXT_WORDS 26, BLOCK_BYTES 80, LEAST_RESPONSE 28
 PARTITIONS 10, LONGEST_IMAGE 88
 KIND_HARDWARE 0, KIND_SOFTWARE 1, KIND_LIFE_CYCLE 2

@@ -82,7 +82,7 @@ fn known(
     // No secret are a word that the call shows, and the mask of a cut, which stands for the
     // power failure: an empty word is that mask afterwards.
     let told = match (call, said) {
-        (_, Said::Answer(Answer::Word(word))) => word,
+        (_, Said::Answer(Answer::Word { word, .. })) => word,
         (Call::Erase(Erase { cut: Some(cut), .. }), _) => cut.mask,
         _ => 0,
     };
@@ -152,7 +152,7 @@ fn cells_values_and_meks_are_known_and_what_is_shown_is_not() {
     let write = Call::Direct(Command::Write { cell: 0, value: 0x6789_ABCD_1357_9BDF });
     let written = [0x1234_5678, 0x6789_ABCD, 0x1357_9BDF].map(four);
     assert_eq!(set(&write, Said::Answer(Answer::Done)), HashSet::from(written));
-    let shown = Said::Answer(Answer::Word(0x1234_5678));
+    let shown = Said::Answer(Answer::Word { word: 0x1234_5678, new_fuses: 0 });
     assert_eq!(set(&Call::Direct(Command::Zeroize { cell: 0 }), shown), HashSet::new());
     let values = Values { mek: [0x17; 64], ..Values::default() };
     let load = Call::Mailbox(Request::of(Mail::Klod, &values));

@@ -1,6 +1,6 @@
 //! The sample drives of `drives/`: what `status` and `why` print for each, or the mistake that
-//! `make_drive` finds in it, is what stands beside it; and what an erasure, a cut or ZEROIZE is said
-//! to have told or left is what the library tells and leaves.
+//! `make_drive` finds in it, is what stands beside it; and what an erasure, a cut or ZEROIZE is
+//! said to have told or left is what the library tells and leaves.
 
 use checks::calls::commands::low_bits;
 use checks::programs::{both, map_made, printed, PROGRAMS};
@@ -138,14 +138,17 @@ fn left(sample: &Drive, cells: &[u32], partition: u32, cut: Option<Cut>) -> Vec<
 }
 
 /// "every ZEROIZE told all ones": of the slot's three pairs, and of partition 1's two single cells
-/// and two pairs.
+/// and two pairs. The new fuses are told as they are, but for the slot, which is secret.
 #[test]
 fn each_word_of_the_board_on_the_older_guide_is_told_as_all_ones() {
     let sample = drive("older_guide");
     let mut lent = lent(&sample, &[0; 12]);
-    for (cell, word) in [(0, 64), (2, 64), (4, 64), (6, 32), (7, 32), (8, 64), (10, 64)] {
+    let of_slot = [(0, 64, 0), (2, 64, 0), (4, 64, 0)];
+    let others = [(6, 32, 27), (7, 32, 32), (8, 64, 64), (10, 64, 64)];
+    for (cell, width, new_fuses) in of_slot.into_iter().chain(others) {
         let said = Proved.answer(&mut lent, &Call::Direct(Command::Zeroize { cell }));
-        assert_eq!(said, Said::Answer(Answer::Word(low_bits(word))), "cell {cell}");
+        let told = Answer::Word { word: low_bits(width), new_fuses };
+        assert_eq!(said, Said::Answer(told), "cell {cell}");
     }
     assert_eq!(lent.drive.cells, sample.cells());
 }

@@ -1,32 +1,36 @@
-//! Document 01, "The small drive", cases 1 to 10, of which document 02 changes 5 and 6 by P4 and 10
-//! by P5, and then the messages of P6: what the program `small_drive` prints, which plays them on
-//! the proved key block. A line has the request's chksum, the answer, the fields of the response,
-//! and the slot as it stands after it.
+//! Document 01, "The small drive", cases 1 to 10, of which document 02 changes 5 and 6 by P4, 10
+//! by P5 and 2 to 7 by P8, and then the messages of P6: what the program `small_drive` prints,
+//! which plays them on the proved key block. A line has the request's chksum, the answer, the
+//! fields of the response, and the slot as it stands after it.
 
 use checks::runner;
 use std::path::Path;
 
-/// Cases 1 to 9. The chksums that the document does not give follow from its sum.
+/// Cases 1 to 9. The chksums and new fuses that the documents do not give follow from their sum,
+/// and from the slot's 192 fuses, of which one is set at the start: BF is 191, BB 187, BA 186, 60
+/// is 96.
 const CASES: &str = "\
 case 1, mark 00 on cell 0: FSTA FFFFFED2, status: 20 bytes, no order [FFFFFFFF, 0, 0, 0, 1]; FRESH
-case 2, mark 00 on cell 0: FERS FFFFFED0, partition 0: ERASED, FFFFFFFF, ONES
-case 2, mark 00 on cell 0: erasure: short 0, burns 3; erased, 0 short, hek none, \
-[FFFFFFFF, FFFFFFFF, ONES
-case 3, mark 0F on cell 1: FERS FFFFFED0, partition 0: ERASED, FFFFFFF0, ONES
-case 4, mark 1F on cell 1: FERS FFFFFED0, partition 0: 20 bytes, no order \
-[FFFFFFFF, 0, 0, 1, 0]; torn, 1 short, hek none, [FFFFFFFF, FFFFFFE0, ONES
+case 2, mark 00 on cell 0: FERS FFFFFED0, partition 0: 24 bytes, no order \
+[FFFFFB45, 0, 0, 0, FFFFFFFF, BF]; ERASED, FFFFFFFF, ONES
+case 2, mark 00 on cell 0: erasure: short 0, burns 3, new fuses 191; ERASED, FFFFFFFF, ONES
+case 3, mark 0F on cell 1: FERS FFFFFED0, partition 0: 24 bytes, no order \
+[FFFFFB49, 0, 0, 0, FFFFFFFF, BB]; ERASED, FFFFFFF0, ONES
+case 4, mark 1F on cell 1: FERS FFFFFED0, partition 0: 24 bytes, no order \
+[FFFFFF45, 0, 0, 1, 0, BA]; torn, 1 short, hek none, [FFFFFFFF, FFFFFFE0, ONES
 case 4, mark 1F on cell 1: FSTA FFFFFED2, status: 20 bytes, no order \
 [0, 0, 0, 0, 0]; torn, 1 short, hek none, [FFFFFFFF, FFFFFFE0, ONES
-case 5, mark 1F on cell 5: FERS FFFFFED0, partition 0: 20 bytes, no order \
-[FFFFFFFB, 0, 0, 1, 4]; erased, 1 short, hek none, \
+case 5, mark 1F on cell 5: FERS FFFFFED0, partition 0: 24 bytes, no order \
+[FFFFFF41, 0, 0, 1, 4, BA]; erased, 1 short, hek none, \
 [FFFFFFFF, FFFFFFFF, FFFFFFFF, FFFFFFFF, FFFFFFFF, FFFFFFE0]
-case 6, mark 00 on cell 0: erasure cut at 0, low 59 bits: cut, burns 1; \
+case 6, mark 00 on cell 0: erasure cut at 0, low 59 bits: cut, burns 1, new fuses 59; \
 torn, 3 short, hek none, [1, 0, 0, 0, FFFFFFFF, 7FFFFFF]
-case 6, mark 00 on cell 0: erasure cut at 0, low 60 bits: cut, burns 1; \
+case 6, mark 00 on cell 0: erasure cut at 0, low 60 bits: cut, burns 1, new fuses 60; \
 torn, 2 short, hek none, [1, 0, 0, 0, FFFFFFFF, FFFFFFF]
-case 7, mark 00 on cell 0: erasure cut at 1, low 32 bits: cut, burns 2; \
+case 7, mark 00 on cell 0: erasure cut at 1, low 32 bits: cut, burns 2, new fuses 95; \
 torn, 2 short, hek none, [FFFFFFFF, 0, 0, 0, FFFFFFFF, FFFFFFFF]
-case 7, mark 00 on cell 0: FERS FFFFFED0, partition 0: ERASED, FFFFFFFF, ONES
+case 7, mark 00 on cell 0: FERS FFFFFED0, partition 0: 24 bytes, no order \
+[FFFFFBA4, 0, 0, 0, FFFFFFFF, 60]; ERASED, FFFFFFFF, ONES
 case 8, mark 00 on cell 0: FERS FFFFFECF, partition 1: refused 8; FRESH
 case 8, mark 00 on cell 0: FERS FFFFFECE, partition 2: refused 7; FRESH
 case 9, mark 00 on cell 0: CLKC FFFFFDF8, timeout 1000: 12 bytes, clear, timeout 1000 [0, 0, 0]; FRESH
@@ -41,14 +45,11 @@ table: RHPK FFFFFEC2, handle 9: refused 20; FRESH
 table: EHDL FFFFFEE3, list: 40 bytes, no order [FFFFFFE2, 0, 0, 3, 5, 1, A, 2, 7, 2]; FRESH
 ";
 
-/// What stands for the words in capitals: the slot as it was, what FERS answers where
-/// no pair is short, with the first cell, and the last four cells.
+/// What stands for the words in capitals: the slot as it was, the slot where no pair is short, with
+/// its first cell, and the last four cells.
 const WORDS: [(&str, &str); 3] = [
     ("FRESH", "programmed, 3 short, hek 0, [1, 0, 0, 0, 0, 0]"),
-    (
-        "ERASED",
-        "20 bytes, no order [FFFFFC04, 0, 0, 0, FFFFFFFF]; erased, 0 short, hek none, [FFFFFFFF",
-    ),
+    ("ERASED", "erased, 0 short, hek none, [FFFFFFFF"),
     ("ONES", "FFFFFFFF, FFFFFFFF, FFFFFFFF, FFFFFFFF]"),
 ];
 

@@ -1,4 +1,4 @@
-//! Document 01, "Direct commands", as P4 of document 02 changes WRITE, and P7 ZEROIZE.
+//! Document 01, "Direct commands", as P4 of document 02 changes WRITE, P7 ZEROIZE, and P8 both.
 
 use crate::fuse;
 use crate::lent::Lent;
@@ -18,8 +18,15 @@ pub enum Command {
 /// "the answer is a word, done, withheld, or refused with its number".
 #[derive(Clone, Copy, Debug, PartialEq, Eq)]
 pub enum Answer {
-    /// A word; one of 32 bits has zeros above them.
-    Word(u64),
+    /// A word.
+    Word {
+        /// The word; one of 32 bits has zeros above them.
+        word: u64,
+        /// P8: "the number of fuses it newly set, ZEROIZE and WRITE answer it beside their word".
+        /// 0 where the answer has no such number: READ's, which burns nothing, and, since "In a
+        /// secret partition WRITE and ZEROIZE do not show it", that of a secret word.
+        new_fuses: u32,
+    },
     /// Carried out, and the word of a secret partition is not shown.
     Done,
     /// Carried out, and the word of a secret partition did not reach the bound.
@@ -52,27 +59,30 @@ fn carry_out(lent: &mut Lent, command: Command) -> Answer {
     let drive = &mut lent.drive;
     let map = drive.map().expect("the map is good");
     let word = map.word_at(command.cell()).expect("the cell starts a word");
-    let mut burn = |value| {
-        fuse::burn_word(&mut drive.cells, &drive.marks, command.cell(), word.size, value);
-    };
-    match command {
-        Command::Read { .. } => {}
+    let mut burn =
+        |value| fuse::burn_word(&mut drive.cells, &drive.marks, command.cell(), word.size, value);
+    let newly_set = match command {
+        Command::Read { .. } => 0,
         Command::Write { value, .. } => burn(value),
         // "ZEROIZE burns all ones"; of them, a word of 32 bits takes the low 32.
         Command::Zeroize { .. } => burn(u64::MAX),
-    }
+    };
     let now_stands = fuse::word(&drive.cells, command.cell(), word.size);
     let reaches_bound = u64::from(now_stands.count_ones()) >= map.bound();
     let entry = map.entries()[word.partition];
     let secret = entry.secret();
+    // P8: "In a secret partition WRITE and ZEROIZE do not show it."
+    let new_fuses = if secret { 0 } else { newly_set };
     match command {
         // "the word as it now stands, or done in a secret partition"
         Command::Write { .. } if secret => Answer::Done,
         // "in a secret partition only if its ones reach B, otherwise withheld"
         Command::Zeroize { .. } if secret && !reaches_bound => Answer::Withheld,
         // P7: "the answer is all ones at the word's width, stuck fuses or not"
-        Command::Zeroize { .. } if entry.older_guide() => Answer::Word(word.size.all_ones()),
-        _ => Answer::Word(now_stands),
+        Command::Zeroize { .. } if entry.older_guide() => {
+            Answer::Word { word: word.size.all_ones(), new_fuses }
+        }
+        _ => Answer::Word { word: now_stands, new_fuses },
     }
 }
 

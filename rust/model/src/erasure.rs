@@ -1,4 +1,4 @@
-//! Document 01, "Erasing a partition", as P4 and P5 of document 02 change it.
+//! Document 01, "Erasing a partition", as P4, P5 and P8 of document 02 change it.
 
 use crate::cache::Cache;
 use crate::drive::Drive;
@@ -29,7 +29,8 @@ pub struct Cut {
     pub mask: u64,
 }
 
-/// "Erasing a partition": what an erasure answers.
+/// "Erasing a partition": what an erasure answers. P8: "every burn reports the number of fuses it
+/// newly set", "erasures add it up, cut ones included".
 #[derive(Clone, Copy, Debug, PartialEq, Eq)]
 pub enum Erasure {
     /// Ran to its end.
@@ -41,13 +42,18 @@ pub enum Erasure {
         first_short: Option<u32>,
         /// "the number of burns carried out"
         burns: u32,
+        /// The fuses that they newly set.
+        new_fuses: u32,
     },
     /// "it answers only that it was cut and the burns carried out, k + 1"
     Cut {
         /// The burns carried out.
         burns: u32,
+        /// The fuses that they newly set.
+        new_fuses: u32,
     },
-    /// Refused.
+    /// Refused. It has no number of fuses, in C 0: no refusal sets one. P8: "15 reports 0, as its
+    /// burn sets nothing."
     Refused {
         /// The refusal's number.
         number: u32,
@@ -80,17 +86,17 @@ fn carry_out(lent: &mut Lent, erase: Erase) -> Erasure {
     let cut = erase.cut.filter(|cut| (cut.k as usize) < words);
     let mut values = vec![ALL_ONES; cut.map_or(words, |cut| cut.k as usize)];
     values.extend(cut.map(|cut| cut.mask));
-    burn_in_order(&mut lent.drive, erase.partition, &values);
+    let new_fuses = burn_in_order(&mut lent.drive, erase.partition, &values);
     let burns = values.len() as u32;
     if cut.is_some() {
         // "nothing follows and the key cache is empty"; P5: "A cut or restart empties all places
         // and drops an awaited reply."
         lent.cache = Cache::default();
-        return Erasure::Cut { burns };
+        return Erasure::Cut { burns, new_fuses };
     }
     let partition = Partition::of(&map, partition, &lent.drive.cells);
     let first_short = partition.lowest_short_pair().map(|cell| cell as u32);
-    Erasure::Erased { short_pairs: partition.short_pairs() as u32, first_short, burns }
+    Erasure::Erased { short_pairs: partition.short_pairs() as u32, first_short, burns, new_fuses }
 }
 
 /// "Order of burns, all ones each: indicator, data words ascending, digest."
@@ -104,12 +110,14 @@ pub fn order(map: &Map, partition: usize) -> Vec<(usize, Word)> {
 }
 
 /// "Erasing a partition": burns these values into the partition's words, one
-/// into each, as far as they reach in the order of burns.
-fn burn_in_order(drive: &mut Drive, partition: u32, values: &[u64]) {
+/// into each, as far as they reach in the order of burns. P8: adds up what each burn reports.
+fn burn_in_order(drive: &mut Drive, partition: u32, values: &[u64]) -> u32 {
     let map = drive.map().expect("the map is good");
+    let mut new_fuses = 0;
     for ((first, word), value) in order(&map, partition as usize).into_iter().zip(values) {
-        fuse::burn_word(&mut drive.cells, &drive.marks, first, word.size, *value);
+        new_fuses += fuse::burn_word(&mut drive.cells, &drive.marks, first, word.size, *value);
     }
+    new_fuses
 }
 
 /// "Refusal numbers": every refusal that applies to the erasure, each tested by

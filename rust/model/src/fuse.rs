@@ -1,22 +1,19 @@
-//! Document 01, "Burning and counting": single burns and the ones of a pair.
+//! Document 01, "Burning and counting": single burns and the ones of a pair; document 02, P8: what
+//! a burn newly sets.
 
 use crate::map::Size;
 
 /// "Burning and counting": "A burn of value v leaves each fuse that was set,
 /// sets each fuse of v not marked stuck, and does nothing else." A word of one
-/// cell takes the low 32 bits of the value.
-pub fn burn_word(cells: &mut [u32], marks: &[u32], first: usize, size: Size, value: u64) {
-    match size {
-        Size::Cell => cells[first] |= value as u32 & !marks[first],
-        Size::Pair => burn_pair(cells, marks, first, value),
+/// cell takes the low 32 bits of the value; of a pair the low half goes to its first cell ("low
+/// half first", "The map of the fuses"). P8: "every burn reports the number of fuses it newly set".
+pub fn burn_word(cells: &mut [u32], marks: &[u32], first: usize, size: Size, value: u64) -> u32 {
+    let before = word(cells, first, size);
+    cells[first] |= value as u32 & !marks[first];
+    if size == Size::Pair {
+        cells[first + 1] |= (value >> 32) as u32 & !marks[first + 1];
     }
-}
-
-/// "Burning and counting": the burn of a pair, named by its first cell; the low
-/// half of the value goes to that cell ("low half first", "The map of the fuses").
-pub fn burn_pair(cells: &mut [u32], marks: &[u32], first: usize, value: u64) {
-    burn_word(cells, marks, first, Size::Cell, value);
-    burn_word(cells, marks, first + 1, Size::Cell, value >> 32);
+    (word(cells, first, size) & !before).count_ones()
 }
 
 /// "The map of the fuses": what a word holds, of a pair the "low half first".

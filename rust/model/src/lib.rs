@@ -1,4 +1,4 @@
-//! A plain reading of document 01, and of P1, P2, P4, P5, P6 and P7 of document 02, written from the
+//! A plain reading of document 01, and of P1, P2 and P4 to P8 of document 02, written from the
 //! documents alone.
 //!
 //! Each file names the section or the request that it reads. Nothing here is

@@ -1,4 +1,4 @@
-//! Document 01, "Mailbox", as P5 and P6 of document 02 change it.
+//! Document 01, "Mailbox", as P5, P6 and P8 of document 02 change it.
 
 pub mod block;
 pub mod fields;
@@ -116,15 +116,17 @@ fn unload(lent: &mut Lent, request: &Request) -> Option<Done> {
     Some((Order::Unload { place: place as u32, timeout }, vec![]))
 }
 
-/// FERS answers "short pairs, first short cell". "Uncut and cut erasures, FERS
-/// among them, are one run". None if the erasure is refused.
+/// FERS answers "short pairs, first short cell", and by P8 the new fuses: "FERS carries it as a
+/// last field (24 bytes)". "Uncut and cut erasures, FERS among them, are one run". None if the
+/// erasure is refused.
 fn erase(lent: &mut Lent, request: &Request) -> Option<Done> {
-    let partition = request.number(Field::Partition)?;
+    let partition = request.partition()?;
     let (erasure, after) = erasure::erase(lent, Erase { partition, cut: None });
     *lent = after;
     match erasure {
-        Erasure::Erased { short_pairs, first_short, .. } => {
-            Some((Order::None, vec![short_pairs, first_short.unwrap_or(0xFFFF_FFFF)]))
+        Erasure::Erased { short_pairs, first_short, new_fuses, .. } => {
+            let first_short = first_short.unwrap_or(0xFFFF_FFFF);
+            Some((Order::None, vec![short_pairs, first_short, new_fuses]))
         }
         _ => None,
     }
@@ -163,7 +165,7 @@ pub fn applying(lent: &Lent, request: &Request) -> Vec<Refusal> {
         (Refusal::WrongChksum, request.chksum().map_or(false, wrong)),
         (Refusal::ReservedNotZero, request.reserved().map_or(false, |reserved| reserved != 0)),
     ];
-    if let Some(partition) = request.number(Field::Partition) {
+    if let Some(partition) = request.partition() {
         tests.extend(erasure::partition_tests(lent, Erase { partition, cut: None }));
     }
     let held = request.tag().map(|tag| lent.cache.lowest_holding(tag).is_some());

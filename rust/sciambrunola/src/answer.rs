@@ -1,5 +1,5 @@
 //! What the key block answers (document 01, "Direct commands", "Erasing a
-//! partition" and "Mailbox").
+//! partition" and "Mailbox"; document 02, P8).
 
 use crate::constants::NO_CELL;
 use crate::raw;
@@ -8,17 +8,28 @@ use crate::raw;
 #[must_use = "it may be refused"]
 #[derive(Clone, Copy, Debug, PartialEq, Eq)]
 pub enum Answer {
-    /// The word, as it stands after the command.
-    ///
-    /// In a partition on the older guide ([`flag::OLDER_GUIDE`](crate::flag::OLDER_GUIDE)) ZEROIZE
-    /// answers all ones at the word's width instead, 32 or 64, though stuck fuses may be unset.
-    /// Whether a partition is erased its state tells, and not this word: see
-    /// [`states`](crate::states).
-    Word(u64),
-    /// Carried out; a word of a secret partition is not shown.
+    /// A word is shown.
+    Word {
+        /// The word, as it stands after the command; one of 32 bits has zeros above them.
+        ///
+        /// In a partition on the older guide
+        /// ([`flag::OLDER_GUIDE`](crate::flag::OLDER_GUIDE)) ZEROIZE answers all ones at the
+        /// word's width instead, 32 or 64, though stuck fuses may be unset. Whether a partition
+        /// is erased its state tells, and not this word: see [`states`](crate::states).
+        word: u64,
+        /// The fuses of the word that WRITE or ZEROIZE newly set, on the older guide too: the
+        /// charge that the burn drew is this number times that of a fuse.
+        ///
+        /// 0 where the answer has no such number: READ's, which burns nothing, and ZEROIZE's in
+        /// a secret partition, which may have drawn charge all the same. It is not shown there,
+        /// since it would tell how many fuses of a word of the seed were unset.
+        new_fuses: u32,
+    },
+    /// Carried out; a word of a secret partition is not shown, nor how many of its fuses
+    /// are new.
     Done,
     /// ZEROIZE was carried out, but too few fuses of the secret word are set
-    /// for it to be shown; on the older guide too.
+    /// for it to be shown; on the older guide too. How many are new is not shown.
     Withheld,
     /// Refused with this number; nothing has changed.
     Refused(u32),
@@ -44,14 +55,25 @@ pub enum Erasure {
         first_short: Option<u32>,
         /// The burns carried out, one for each word.
         burns: u32,
+        /// The fuses that these burns newly set: the charge that the erasure drew is this
+        /// number times that of a fuse. Over any erasures of a partition, cut and refused ones
+        /// among them, the sum is the set fuses after the last minus those before the first,
+        /// while nothing else changes the cells.
+        ///
+        /// A secret partition is told so too: how many fuses of all its words together, the
+        /// seed's among them, were unset before, stuck ones aside.
+        new_fuses: u32,
     },
     /// The power failed; every place of the key cache is empty, and no reply of the engine
     /// is awaited. Erase again.
     Cut {
         /// The burns carried out, the one that was cut included.
         burns: u32,
+        /// The fuses that these burns newly set, of the one that was cut at most the mask's. A
+        /// secret partition is told so too: a mask of one fuse tells whether that was unset.
+        new_fuses: u32,
     },
-    /// Refused; nothing has changed.
+    /// Refused; nothing has changed, and no fuse is new.
     Refused {
         /// The refusal's number.
         number: u32,
@@ -108,7 +130,7 @@ impl Answer {
     #[inline]
     pub(crate) fn from_raw(answer: raw::Answer) -> Answer {
         match answer.kind {
-            raw::WORD => Answer::Word(answer.word),
+            raw::WORD => Answer::Word { word: answer.word, new_fuses: answer.new_fuses },
             raw::DONE => Answer::Done,
             raw::WITHHELD => Answer::Withheld,
             _ => Answer::Refused(answer.refusal),
@@ -119,11 +141,11 @@ impl Answer {
 impl Erasure {
     #[inline]
     pub(crate) fn from_raw(erasure: raw::Erasure) -> Erasure {
-        let raw::Erasure { kind, refusal, short_pairs, first_short, burns } = erasure;
+        let raw::Erasure { kind, refusal, short_pairs, first_short, burns, new_fuses } = erasure;
         let first_short = (first_short != NO_CELL).then_some(first_short);
         match kind {
-            raw::ENDED => Erasure::Ended { short_pairs, first_short, burns },
-            raw::CUT => Erasure::Cut { burns },
+            raw::ENDED => Erasure::Ended { short_pairs, first_short, burns, new_fuses },
+            raw::CUT => Erasure::Cut { burns, new_fuses },
             _ => Erasure::Refused { number: refusal, burns },
         }
     }

@@ -2,7 +2,7 @@
 
 /// The version of the header and of the archive: it grows by one whenever something
 /// changes for a caller (`docs/CHANGES.md`).
-pub const VERSION: u32 = 11;
+pub const VERSION: u32 = 12;
 /// The bytes of the engine block.
 pub const BLOCK_BYTES: usize = 128;
 /// The bytes of the shortest response buffer that any command accepts: those of the longest

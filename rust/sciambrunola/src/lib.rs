@@ -9,6 +9,10 @@
 //! `include/sciambrunola.h` has them in short. The work itself is done by the proved
 //! archive; here are only the types that make its calls safe.
 //!
+//! What burns fuses answers how many it newly set, for whoever plans the supply: the charge
+//! that it drew is that number times the charge of one fuse. A stuck fuse draws none, nor does
+//! one that was set already. [`Answer::Word`] says where the number is not shown.
+//!
 //! It has no memory of its own: what it keeps between calls is in a [`Context`],
 //! which is the caller's. Its table is made once, by [`make_table`], before the first
 //! mailbox command.
@@ -153,7 +157,8 @@ pub fn erase(
 /// The same erasure where the power fails at burn `k`, counted from 0: that burn
 /// has `mask` in place of all ones, of which a 32-bit word takes the low 32
 /// bits, nothing follows, every place of the key cache is emptied, and an awaited reply
-/// of the engine is dropped; the table of handles stays.
+/// of the engine is dropped; the table of handles stays. It is for trying out what a drive
+/// does after a power failure, and not for a host: see [`Erasure::Cut`].
 ///
 /// Where the erasure ends before burn `k`, or is refused, it is [`erase`], and
 /// the context stays as it is.
@@ -188,8 +193,8 @@ pub fn restart(context: &mut Context) {
 /// where it has an order for the engine, the engine block to `block`. Nothing
 /// else changes but the key cache, by RHPK the table, and by FERS, which is [`erase`], the
 /// cells; and nothing at all on refusal. FERS that is accepted has erased the partition
-/// exactly if the response's short pairs are 0 or its first short cell is the indicator's
-/// (see [`Erasure::Ended`]).
+/// exactly if the response's short pairs are 0 or its first short cell is the indicator's;
+/// its last field is the fuses that were newly set (see [`Erasure::Ended`]).
 ///
 /// KLOD, KUNL and CLKC have an order. Hand it to the engine with the block, and the
 /// engine's reply to [`engine_reply`]. Until then the place of the key waits, for CLKC
@@ -246,8 +251,8 @@ pub fn engine_reply(context: &mut Context, reply: EngineReply) -> Result<(), u32
 /// copy, or a context made anew, numbers can be given again.
 ///
 /// The error is the refusal's number, 2 ([`refusal::LENGTHS`]): the context has a table, also
-/// one whose count is not 1 to [`HANDLES`], the handles are none or too many, the algorithms are not as many, or two handles are equal.
-/// Nothing has changed.
+/// one whose count is not 1 to [`HANDLES`], the handles are none or too many, the algorithms
+/// are not as many, or two handles are equal. Nothing has changed.
 pub fn make_table(context: &mut Context, handles: &[u32], algorithms: &[u32]) -> Result<(), u32> {
     unless_refused(raw::make_table(context, handles, algorithms))
 }

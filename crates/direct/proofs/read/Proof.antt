@@ -1,6 +1,6 @@
 -- `direct::read` meets its contract: a word of a secret partition is refused, any other shown. Assumes nothing.
 use mathlib.Core.Path.{refl, sym, _∙_}
-use Rattle.direct.specs.Direct.{clears, changesSlot, cellsAfter}
+use Rattle.direct.specs.Direct.{clears, changesSlot, cellsAfter, newAfter}
 use Rattle.direct.specs.Laws.{read-forbidden, found-is, find-refused, named, word-at, word-carried}
 use borrow.Author.Needs.{needs}
 use Rattle.direct.proofs.read.Statement.{statement}
@@ -45,14 +45,14 @@ returns-2 c =
     λ context. find-refused _ _ _ _ (found-is _ _ _ _ (looked .before .check-drive .ensures) (looked .find .ensures) (c .before .number .given .1))
 
 returns-3 : tie.Need-returns-3
-unfolding clears changesSlot cellsAfter
+unfolding clears changesSlot cellsAfter newAfter
 returns-3 c =
     let found = c .before .before .before .before .before in
     let looked = found .before .before in
     let e = found-is _ _ _ _ (looked .before .check-drive .ensures) (looked .find .ensures) (found .partition .given .1) in
     let passed = c .before in
     let may = sym (read-forbidden _ _ (passed .before .before .read-entry .ensures) _ _ _ _ (passed .before .is-secret .ensures)) ∙ passed .if1 .left in
-    λ context. word-carried _ _ _ _ e (may, (refl, (refl, tt))) refl refl (passed .before .before .read-entry .ensures) (c .word-of .ensures) refl
+    λ context. word-carried _ _ _ _ e (may, (refl, (refl, tt))) refl refl refl (passed .before .before .read-entry .ensures) (c .word-of .ensures) refl
 
 pub read-spec : {M : Type 1} → statement M
 read-spec =

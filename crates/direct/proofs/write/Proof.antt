@@ -3,7 +3,7 @@ use mathlib.Core.Path.{_≡_, refl, sym, _∙_}
 use mathlib.Core.Bool.{false}
 use Rattle.direct.specs.declared.Command.the-variants.{Write}
 use Rattle.direct.specs.declared.Found.the-variants.{Word}
-use Rattle.direct.specs.Direct.{forbidden, clears, changesSlot, cellsAfter, foundOf}
+use Rattle.direct.specs.Direct.{forbidden, clears, changesSlot, cellsAfter, newAfter, foundOf}
 use Rattle.direct.specs.Laws.{write-forbidden, write-clears, write-keeps, found-is, find-refused, named, word-at, word-carried}
 use borrow.Author.Needs.{needs}
 use Rattle.direct.proofs.write.Statement.{statement}
@@ -117,14 +117,14 @@ same-length-5 : tie.Need-same-length-5
 same-length-5 c = search needs
 
 returns-5 : tie.Need-returns-5
-unfolding changesSlot cellsAfter
+unfolding changesSlot cellsAfter newAfter
 returns-5 c =
     let burned = c .before .before .before .before in
     let idle = burned .before .before in
     let kept = idle .before in
     let passed = kept .before .before .before in
     let free = sym (passed .before .before .before .before .before .before .is-slot-in-use .ensures) ∙ idle .if3 .left in
-    word-carried _ _ _ _ (at-word (found-before passed)) (may passed, (keeps kept, (free, tt))) (burned .burn-word .ensures) refl
+    word-carried _ _ _ _ (at-word (found-before passed)) (may passed, (keeps kept, (free, tt))) (burned .burn-word .ensures .0) (burned .burn-word .ensures .1) refl
     (passed .before .before .before .read-entry .ensures) refl (c .written .ensures)
 
 pub write-spec : {M : Type 1} → statement M

@@ -1,7 +1,7 @@
 -- `direct::zeroize` meets its contract: 8 and 10 by its tests; else its word is burned. Assumes nothing.
 use mathlib.Core.Path.{_≡_, refl, sym, _∙_}
 use Rattle.direct.specs.declared.Found.the-variants.{Word}
-use Rattle.direct.specs.Direct.{clears, changesSlot, cellsAfter, foundOf}
+use Rattle.direct.specs.Direct.{clears, changesSlot, cellsAfter, newAfter, foundOf}
 use Rattle.direct.specs.Laws.{zeroize-forbidden, found-is, find-refused, named, word-at, word-carried}
 use borrow.Author.Needs.{needs}
 use Rattle.direct.proofs.zeroize.Statement.{statement}
@@ -86,7 +86,7 @@ same-length-4 : tie.Need-same-length-4
 same-length-4 c = search needs
 
 returns-4 : tie.Need-returns-4
-unfolding clears changesSlot cellsAfter
+unfolding clears changesSlot cellsAfter newAfter
 returns-4 c =
     let burned = c .before .before .before .before .before .before in
     let idle = burned .before .before in
@@ -94,7 +94,7 @@ returns-4 c =
     let found = passed .before .before .before .before .before in
     let may = sym (zeroize-forbidden _ _ (passed .before .before .read-entry .ensures) _ _ _ _ (passed .before .is-zeroizable .ensures)) ∙ passed .if1 .left in
     let free = sym (idle .before .is-slot-in-use .ensures) ∙ idle .if2 .left in
-    word-carried _ _ _ _ (at-word found) (may, (refl, (free, tt))) (burned .burn-word .ensures) (passed .before .before .before .read-header .ensures)
+    word-carried _ _ _ _ (at-word found) (may, (refl, (free, tt))) (burned .burn-word .ensures .0) (burned .burn-word .ensures .1) (passed .before .before .before .read-header .ensures)
     (passed .before .before .read-entry .ensures) (c .before .before .word-of .ensures) (c .zeroized .ensures)
 
 pub zeroize-spec : {M : Type 1} → statement M

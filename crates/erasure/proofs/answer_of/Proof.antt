@@ -27,8 +27,8 @@ cast-shorts-of c = search needs
 shorts-of-requires : tie.Need-shorts-of-requires
 shorts-of-requires c κs = search needs
 
-cast-t14 : tie.Need-cast-t14
-cast-t14 c =
+cast-t15 : tie.Need-cast-t15
+cast-t15 c =
     let part = c .before .before .before .before .before .before .before in
     let start = part .before .before .before .before in
     omega (arith, count-fits _ _ _ (start .pre .0) (start .pre .1) _ (part .part-of .ensures) (c .before .shorts-of .ensures))
@@ -51,7 +51,7 @@ returns c =
     let told = header .before in
     let part = told .before .before .before in
     ended _ _ _ (told .enum-told .given .1)
-    (ended-is _ _ _ _ (header .read-header .ensures) (part .before .read-entry .ensures) (part .part-of .ensures) (c .before .before .shorts-of .ensures) (c .first-short .ensures))
+    (ended-is _ _ _ _ _ (header .read-header .ensures) (part .before .read-entry .ensures) (part .part-of .ensures) (c .before .before .shorts-of .ensures) (c .first-short .ensures))
 
 returns-2 : tie.Need-returns-2
 returns-2 c = ended _ _ _ (c .enum-told2 .given .1) refl
@@ -70,7 +70,7 @@ answer-of-spec =
     read-header-requires
     cast-shorts-of
     shorts-of-requires
-    cast-t14
+    cast-t15
     first-short-requires
     enum-told-2
     enum-told-3

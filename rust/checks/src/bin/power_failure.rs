@@ -55,5 +55,5 @@ fn line(mut lent: Lent, cut: Cut, (cell, word): (usize, Word), mask: &str) -> St
 }
 
 fn row([k, word, mask, answer, after, state, short, hek]: [&str; 8]) -> String {
-    format!("{k:<4} {word:<11} {mask:<6} {answer:<19} {after:<16} {state:<10} {short:<5} {hek:<4}")
+    format!("{k:<4} {word:<11} {mask:<6} {answer:<27} {after:<16} {state:<10} {short:<5} {hek:<4}")
 }

@@ -2,7 +2,7 @@
 //! refusals that can apply to one call, each reply to each order, and the sights.
 
 use super::outcomes::{came, outcomes};
-use super::{handles, pairs, sights};
+use super::{charge, handles, pairs, sights};
 use crate::context::REPLIES;
 use crate::layout::Layout;
 use crate::tally::{self, Row};
@@ -33,7 +33,7 @@ pub fn possible() -> Vec<String> {
     let mut keys = outcomes();
     keys.extend(pairs::possible());
     keys.extend(tally::names(FORBIDDEN).into_iter().map(alone).chain(tally::names(sights::ALL)));
-    keys.extend(tally::names(handles::ALL));
+    keys.extend(tally::names(handles::ALL).into_iter().chain(tally::names(charge::ALL)));
     keys.extend(answers());
     keys
 }
@@ -78,7 +78,7 @@ pub struct Seen<'a> {
 #[derive(Clone, Copy)]
 pub struct Named {
     entry: Entry,
-    word: Word,
+    pub word: Word,
     pub stands: u64,
     past_bound: i64,
     /// Whether its partition is counted as zeroized, or marked all the same.
@@ -101,6 +101,7 @@ impl<'a> Seen<'a> {
     pub fn met(self) -> Vec<String> {
         let mut met = tally::that_hold(sights::ALL, |holds| holds(&self));
         met.extend(tally::that_hold(handles::ALL, |holds| holds(&self)));
+        met.extend(tally::that_hold(charge::ALL, |holds| holds(&self)));
         for (at, first) in self.applying.iter().enumerate() {
             let later = self.applying[at + 1..].iter();
             met.extend(later.map(|later| pairs::key(first.number(), later.number())));
@@ -202,7 +203,7 @@ impl<'a> Seen<'a> {
 
     /// The same of one that was cut at its indicator.
     pub fn cuts_indicator(&self, holds: Holds) -> bool {
-        matches!(self.said, Said::Erasure(Erasure::Cut { burns: 1 })) && self.leaves(holds)
+        matches!(self.said, Said::Erasure(Erasure::Cut { burns: 1, .. })) && self.leaves(holds)
     }
 
     fn leaves(&self, holds: Holds) -> bool {

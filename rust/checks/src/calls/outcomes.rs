@@ -64,7 +64,7 @@ fn outcome(said: Said) -> String {
         Said::Place([2, _]) => "waiting",
         Said::Place(_) => "unsure",
         Said::Written(_) => "written",
-        Said::Answer(Answer::Word(_)) => "word",
+        Said::Answer(Answer::Word { .. }) => "word",
         Said::Answer(Answer::Done) => "done",
         Said::Answer(_) => "withheld",
         Said::Erasure(Erasure::Cut { .. }) => "cut",

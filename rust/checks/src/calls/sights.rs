@@ -1,5 +1,5 @@
 //! Sights: what is to be met in generated calls though no outcome names it. Those of tables stand
-//! with `handles`.
+//! with `handles`, those of new fuses with `charge`.
 
 use super::met::Seen;
 use crate::layout::Layout;

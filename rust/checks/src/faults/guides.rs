@@ -26,7 +26,7 @@ pub(super) const ALL: [Row<Fault>; 6] = [
 /// Of a ZEROIZE that was carried out.
 impl Made<'_> {
     /// The word that it names, in a partition on the older guide or not.
-    fn zeroized(&self, older: bool) -> Option<(usize, Word)> {
+    pub(super) fn zeroized(&self, older: bool) -> Option<(usize, Word)> {
         let Call::Direct(command) = self.call else { return None };
         let map = self.before.drive.map().filter(|_| self.carries_out("ZEROIZE"))?;
         let word = map.word_at(command.cell())?;
@@ -37,7 +37,7 @@ impl Made<'_> {
     /// A word of this size that is answered is answered so, by what stands there.
     fn tells(&mut self, older: bool, size: Size, told: fn(u64) -> u64) -> bool {
         match (self.zeroized(older), self.said) {
-            (Some((cell, word)), Said::Answer(Answer::Word(_))) if word.size == size => {
+            (Some((cell, word)), Said::Answer(Answer::Word { .. })) if word.size == size => {
                 self.shows(told(fuse::word(&self.after.drive.cells, cell, size)))
             }
             _ => false,
@@ -45,7 +45,11 @@ impl Made<'_> {
     }
 
     fn shows(&mut self, word: u64) -> bool {
-        self.said = Said::Answer(Answer::Word(word));
+        let new_fuses = match self.said {
+            Said::Answer(Answer::Word { new_fuses, .. }) => new_fuses,
+            _ => 0,
+        };
+        self.said = Said::Answer(Answer::Word { word, new_fuses });
         true
     }
 }

@@ -76,11 +76,6 @@ impl Made<'_> {
 
 /// What a fault changes.
 impl Made<'_> {
-    fn leaves(&mut self, change: fn(&mut Made)) -> bool {
-        change(self);
-        true
-    }
-
     /// RHPK gives this number at this place.
     fn gives(&mut self, place: usize, number: u32) -> bool {
         self.after.clone_from(self.before);

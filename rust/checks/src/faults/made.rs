@@ -1,6 +1,6 @@
-//! A call as the model made it, and what faults of document 02's P5, P6 and P7 ask of it or change.
+//! A call as the model made it, and what faults of document 02's P5 to P8 ask of it or change.
 
-use super::{engine, guides, handles};
+use super::{charge, engine, guides, handles};
 use model::{Call, Erasure, Lent, Reply, Said};
 
 /// A call as the model made it; a fault changes what it said or left.
@@ -29,10 +29,21 @@ pub fn of_guides() -> impl Iterator<Item = &'static str> {
     guides::ALL.into_iter().map(|(name, _)| name)
 }
 
+/// The names of P8's faults that break the sum of what is reported.
+pub fn of_sums() -> impl Iterator<Item = &'static str> {
+    charge::OF_SUMS.into_iter().map(|(name, _)| name)
+}
+
+/// The names of all of P8's faults.
+pub fn of_charge() -> impl Iterator<Item = &'static str> {
+    of_sums().chain(charge::OF_ANSWERS.into_iter().map(|(name, _)| name))
+}
+
 /// What is said with the fault of this name, if there is one and it shows.
 pub(super) fn faulty(name: &str, mut made: Made) -> Option<Said> {
-    let mut all = engine::ALL.into_iter().chain(handles::ALL).chain(guides::ALL);
-    let (_, shows) = all.find(|(fault, _)| *fault == name)?;
+    let of_charge = charge::OF_SUMS.into_iter().chain(charge::OF_ANSWERS);
+    let others = engine::ALL.into_iter().chain(handles::ALL).chain(guides::ALL);
+    let (_, shows) = others.chain(of_charge).find(|(fault, _)| *fault == name)?;
     shows(&mut made).then_some(made.said)
 }
 
@@ -52,6 +63,12 @@ impl Made<'_> {
 
     pub fn applies(&self, number: u32) -> bool {
         self.call.applying(self.before).iter().any(|refusal| refusal.number() == number)
+    }
+
+    /// Something else is left or said.
+    pub fn leaves(&mut self, change: fn(&mut Made)) -> bool {
+        change(self);
+        true
     }
 
     /// The call is refused with this number.

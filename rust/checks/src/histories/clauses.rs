@@ -1,14 +1,24 @@
-//! Demand 3 and document 01, "Attempts", and document 02, P4, on erasures: each clause as a check
-//! of values, with nothing of the model that burns or counts; of its refusals only the map's rules.
+//! Demand 3 and document 01, "Attempts", and document 02, P4 and P8, on erasures: each clause as a
+//! check of values, with nothing of the model that burns or counts; of its refusals only the map's
+//! rules.
 
 use super::play::Step;
+use crate::layout::ones;
 use crate::small::response;
 use crate::tally::{self, Row};
-use model::{Cache, Call, Cut, Erase, Erasure, Reply, Said};
+use model::{Cache, Call, Cut, Erase, Erasure, Lent, Reply, Said};
 use sciambrunola::NO_CELL;
+use std::ops::Range;
 
 /// What a clause says of one attempt: whether it holds, or none where it asks for nothing.
 type Clause = fn(&Step) -> Option<bool>;
+
+/// The name of P8's clause.
+pub const SUM: &str = "the new fuses told so far are the set fuses now minus those at the start";
+
+/// In FERS's response, what demand 3 leaves out.
+const CHKSUM: Range<usize> = 0..4;
+const NEW_FUSES: Range<usize> = 20..24;
 
 /// The clauses and their names, each after the sentence that it checks.
 pub const ALL: &[Row<Clause>] = &[
@@ -41,18 +51,15 @@ pub const ALL: &[Row<Clause>] = &[
     // attempt answers something else.
     ("cut is answered, with k + 1 burns, exactly if it was cut", |s| {
         let answered = match s.said {
-            Said::Erasure(Erasure::Cut { burns }) => Some(burns),
+            Said::Erasure(Erasure::Cut { burns, .. }) => Some(burns),
             _ => None,
         };
         (!s.is_restart()).then(|| answered == s.cut.map(|cut| cut.k + 1))
     }),
-    // The refusal number, or the short pairs, first short cell and burns; for FERS the
-    // length of the response, its bytes, and the engine order.
     ("an uncut attempt answers as if made first", |s| {
         let (said, left) = s.alone.as_ref()?;
-        let response = s.after.response.get(..response_length(s));
-        let same = response.is_some() && response == left.response.get(..response_length(s));
-        Some(s.said == *said && same)
+        let answer = compared(s.said, &s.after);
+        Some(answer.is_some() && answer == compared(*said, left))
     }),
     ("accepted or refused with 15, it leaves the cells as if made first", |s| {
         let (_, left) = s.alone.as_ref()?;
@@ -82,14 +89,15 @@ pub const ALL: &[Row<Clause>] = &[
     // pair, so that it is the lowest short one exactly if no other is short; "torn means marked
     // otherwise".
     ("ended, it is erased if none is short, or the indicator first, else torn", |s| {
-        let ([short_pairs, first_short], partition) = (s.told()?, s.partition.as_ref()?);
+        let ([short_pairs, first_short, _], partition) = (s.told()?, s.partition.as_ref()?);
         let indicator = partition.indicator().start as u32;
         let passes = short_pairs == 0 || first_short == indicator;
         let (erased, torn) = (partition.erased(s.cells()), partition.torn(s.cells()));
         Some(erased == passes && (passes || torn))
     }),
     ("bytes past the response keep their values", |s| {
-        let [after, before] = [&s.after, &s.before].map(|l| l.response.get(response_length(s)..));
+        let past = response_length(s.said)..;
+        let [after, before] = [&s.after, &s.before].map(|l| l.response.get(past.clone()));
         matches!(s.call, Call::Mailbox(_)).then(|| after == before)
     }),
     ("a restart changes no cell", |s| s.is_restart().then(|| s.cells() == s.before.drive.cells)),
@@ -97,6 +105,12 @@ pub const ALL: &[Row<Clause>] = &[
     ("every place is empty, no reply awaited", |s| Some(s.after.cache == Cache::default())),
     // P6: "kept with the table, which a restart leaves"
     ("the table is the starting one", |s| Some(s.after.table == s.history.table)),
+    // P8: "Over any number of cut and uncut attempts the sum equals set fuses after minus set fuses
+    // before."
+    (SUM, |s| {
+        let [start, now] = [s.start(), s.cells()].map(|cells| u64::from(ones(cells)));
+        Some(now == start + s.past.reported + s.reported())
+    }),
 ];
 
 /// The clauses that do not hold after this attempt.
@@ -113,9 +127,24 @@ fn refused_unchanged(step: &Step) -> bool {
     step.said.refusal().is_some() && step.cells() == step.start()
 }
 
+/// What is compared of an answer: the refusal number, or the short pairs, first short cell and
+/// burns; for FERS the length of the response, its bytes, and the engine order. P8: "Demand 3's
+/// answers and responses now leave out this number and the chksum": these are made 0 here, and
+/// nothing else. None where the response is longer than its buffer.
+fn compared(mut said: Said, left: &Lent) -> Option<(Said, Vec<u8>)> {
+    if let Said::Erasure(Erasure::Erased { new_fuses, .. }) = &mut said {
+        *new_fuses = 0;
+    }
+    let mut response = left.response.get(..response_length(said))?.to_vec();
+    for left_out in [CHKSUM, NEW_FUSES] {
+        response.get_mut(left_out).into_iter().for_each(|bytes| bytes.fill(0));
+    }
+    Some((said, response))
+}
+
 /// Bytes of the response, none on refusal.
-fn response_length(step: &Step) -> usize {
-    match step.said {
+fn response_length(said: Said) -> usize {
+    match said {
         Said::Reply(Reply::Accepted { length, .. }) => length,
         _ => 0,
     }
@@ -133,32 +162,36 @@ impl Step<'_> {
         matches!(self.call, Call::Erase(Erase { cut: Some(Cut { k: 0, .. }), .. }))
     }
 
-    /// Of an attempt that ran to its end: the short pairs and the first short cell that it answers,
-    /// FERS by its response.
-    fn told(&self) -> Option<[u32; 2]> {
+    /// Of an attempt that ran to its end: the short pairs, the first short cell and the new fuses
+    /// that it answers, FERS by its response.
+    fn told(&self) -> Option<[u32; 3]> {
         match self.said {
-            Said::Erasure(Erasure::Erased { short_pairs, first_short, .. }) => {
-                Some([short_pairs, first_short.unwrap_or(NO_CELL)])
+            Said::Erasure(Erasure::Erased { short_pairs, first_short, new_fuses, .. }) => {
+                Some([short_pairs, first_short.unwrap_or(NO_CELL), new_fuses])
             }
             Said::Reply(Reply::Accepted { .. }) => {
-                let fields = response(&self.after, response_length(self));
-                Some([fields[3], fields[4]])
+                let fields = response(&self.after, response_length(self.said));
+                Some([fields[3], fields[4], fields[5]])
             }
             _ => None,
         }
     }
 
-    /// Of a cut: "the first k burns are whole, the burn numbered k has the mask (its
-    /// low 32 bits for a 32-bit word) in place of all ones, nothing follows".
+    /// The new fuses that the attempt reports; a refusal and a restart report none.
+    pub fn reported(&self) -> u64 {
+        let reported = match self.said {
+            Said::Erasure(Erasure::Cut { new_fuses, .. }) => new_fuses,
+            _ => self.told().map_or(0, |[_, _, new_fuses]| new_fuses),
+        };
+        reported.into()
+    }
+
+    /// What a cut leaves, by its k and its mask.
     fn cut_leaves(&self) -> Option<Vec<u32>> {
-        let (cut, order) = (self.cut?, self.partition.as_ref()?.order());
-        let k = cut.k as usize;
+        let burned = self.partition.as_ref()?.burned(Some(self.cut?));
         let mut expected = self.before.drive.cells.clone();
-        for (number, word) in order.into_iter().enumerate().take(k + 1) {
-            let value = if number < k { u64::MAX } else { cut.mask };
-            for (half, cell) in word.enumerate() {
-                expected[cell] |= (value >> (32 * half)) as u32 & !self.history.start.marks[cell];
-            }
+        for (cell, value) in burned {
+            expected[cell] |= value & !self.history.start.marks[cell];
         }
         Some(expected)
     }

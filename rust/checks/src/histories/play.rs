@@ -4,7 +4,7 @@
 
 use super::{clauses, Attempt, History};
 use crate::calls::unlike_model;
-use crate::layout::Layout;
+use crate::layout::{is_burned_in_part, is_stuck, ones, would_burn, Layout};
 use crate::proved::Proved;
 use crate::tally::{self, Row, Tally};
 use model::{Call, Cut, Erase, KeyBlock, Lent, Said};
@@ -40,6 +40,8 @@ pub struct Past {
     pub cut: bool,
     pub torn: bool,
     pub completed: bool,
+    /// The sum of the new fuses that were reported.
+    pub reported: u64,
 }
 
 /// The refusals that an attempt can get; 10 and 17 are none, since every place stays
@@ -98,6 +100,21 @@ const SIGHTS: &[Row<Sight>] = &[
         s.past.cut && s.said.refusal().map_or(false, |number| number <= 8)
     }),
     ("restart after a cut", |s| s.past.cut && s.is_restart()),
+    ("cut that set a part of a word", |s| s.burns_in_part()),
+    ("cut that set a part of a word, some of its fuses stuck and some set before", |s| {
+        s.burns_in_part() && s.named_word().map_or(false, |word| s.is_mixed(word))
+    }),
+    ("ended with new fuses, others stuck and others set at the start", |s| {
+        let mixed = s.partition.as_ref().map_or(false, |p| s.is_mixed(p.range.clone()));
+        s.completes && s.reported() > 0 && mixed
+    }),
+    ("ended with new fuses after a cut with some", |s| {
+        s.completes && s.reported() > 0 && s.past.cut && s.past.reported > 0
+    }),
+    ("FERS ended with new fuses", |s| s.completes && s.reported() > 0 && s.call.name() == "FERS"),
+    ("ended with no new fuse", |s| s.completes && s.reported() == 0),
+    ("refused after new fuses", |s| s.past.reported > 0 && s.said.refusal().is_some()),
+    ("restart after new fuses", |s| s.past.reported > 0 && s.is_restart()),
 ];
 
 /// Everything that a run has to meet: each clause asked for something, each refusal, each sight.
@@ -158,9 +175,22 @@ impl Step<'_> {
 
     /// Whether some fuse of these cells is neither set nor stuck.
     fn would_burn(&self, of: fn(&Layout) -> Range<usize>) -> bool {
-        let marks = &self.history.start.marks;
-        let burns = |cell: usize| self.cells()[cell] | marks[cell] != u32::MAX;
-        self.partition.as_ref().map_or(false, |p| of(p).any(burns))
+        self.partition.as_ref().map_or(false, |p| would_burn(&self.after.drive, of(p)))
+    }
+
+    /// The word that a cut was in.
+    fn named_word(&self) -> Option<Range<usize>> {
+        Some(self.partition.as_ref()?.order()[self.cut?.k as usize].clone())
+    }
+
+    fn burns_in_part(&self) -> bool {
+        let drives = [&self.before.drive, &self.after.drive];
+        self.named_word().map_or(false, |word| is_burned_in_part(drives, word))
+    }
+
+    /// Whether some fuse of these cells is stuck, and some was set at the start.
+    fn is_mixed(&self, cells: Range<usize>) -> bool {
+        is_stuck(&self.after.drive, cells.clone()) && ones(&self.start()[cells]) > 0
     }
 
     /// Whether this holds of a cut's k and of the number of the digest's burn.
@@ -218,6 +248,7 @@ fn play<'a>(history: &'a History, block: &mut impl KeyBlock) -> Vec<Step<'a>> {
             cut: steps.iter().any(|step| step.cut.is_some()),
             torn: steps.iter().any(|step| step.cut.is_some() && step.tears()),
             completed: steps.iter().any(|step| step.completes),
+            reported: steps.iter().map(Step::reported).sum(),
         };
         let partition = whole.clone();
         let step =

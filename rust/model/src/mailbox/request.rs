@@ -84,6 +84,11 @@ impl Request {
         Some(u64::from(low) + (u64::from(high) << 32))
     }
 
+    /// The partition, if the command has it and the request reaches so far.
+    pub fn partition(&self) -> Option<u32> {
+        self.number(Field::Partition)
+    }
+
     /// P6: the handle, if the command has it and the request reaches so far.
     pub fn handle(&self) -> Option<u32> {
         self.number(Field::HpkeHandle)

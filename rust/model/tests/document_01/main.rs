@@ -1,5 +1,5 @@
 //! The model held to the sentences and numbers of document 01, a file for each
-//! section, and to those of document 02's P4, P5 and P6 where they change them. Every expected
+//! section, and to those of document 02's P4, P5, P6 and P8 where they change them. Every expected
 //! value is a document's, or follows from its rules.
 
 mod direct_commands;
@@ -94,6 +94,10 @@ fn fers(partition: u32) -> Request {
     Request::of(Mail::Fers, &Values { partition, ..Values::default() })
 }
 
-fn erased(short_pairs: u32, first_short: Option<u32>, burns: u32) -> Erasure {
-    Erasure::Erased { short_pairs, first_short, burns }
+fn erased(short_pairs: u32, first_short: Option<u32>, burns: u32, new_fuses: u32) -> Erasure {
+    Erasure::Erased { short_pairs, first_short, burns, new_fuses }
+}
+
+fn was_cut(burns: u32, new_fuses: u32) -> Erasure {
+    Erasure::Cut { burns, new_fuses }
 }

@@ -1,4 +1,5 @@
-//! "The small drive": its fields, words and states, and cases 2 to 7.
+//! "The small drive": its fields, words and states, and cases 2 to 7. The responses of 2 and 7
+//! stand with P8.
 
 use super::*;
 use model::map::{broken_rules, Part, Size, Word};
@@ -71,39 +72,37 @@ fn one_fuse_of_the_indicator_makes_the_slot_erased_or_torn() {
 #[test]
 fn case_2_fers_burns_every_fuse_of_the_slot() {
     let new = small(&[], &[]);
-    check(&new, uncut(0), erased(0, None, 3), [ALL; 6], (Erased, 0, false));
-    let fers_0 = Request::of(Mail::Fers, &Values::default());
-    assert_eq!(fers_0.bytes, [0xD0, 0xFE, 0xFF, 0xFF, 0, 0, 0, 0, 0, 0, 0, 0]);
-    assert_eq!(mailbox(&new, &fers_0).1.response[..4], [0x04, 0xFC, 0xFF, 0xFF]);
+    check(&new, uncut(0), erased(0, None, 3, 191), [ALL; 6], (Erased, 0, false));
+    assert_eq!(fers(0).bytes, [0xD0, 0xFE, 0xFF, 0xFF, 0, 0, 0, 0, 0, 0, 0, 0]);
 }
 
 /// Four stuck fuses leave 60 ones in word 0, five leave 59. P4: case 5 "now ends erased with 1
-/// short"; the response's chksum is 0 minus 1 minus 4. With word 0 short too it is torn.
+/// short"; the response's chksum is 0 minus 1 minus 4 minus 186, by P8 the fuses that are newly
+/// set. With word 0 short too it is torn.
 #[test]
 fn cases_3_to_5_stuck_fuses_leave_the_slot_erased_or_torn() {
     let stuck = |cell, mark| small(&[], &[(cell, mark)]);
     let word_0 = |high| [ALL, high, ALL, ALL, ALL, ALL];
     let (sixty, fifty_nine) = (word_0(0xFFFF_FFF0), word_0(0xFFFF_FFE0));
-    check(&stuck(1, 0x0F), uncut(0), erased(0, None, 3), sixty, (Erased, 0, false));
-    check(&stuck(1, 0x1F), uncut(0), erased(1, Some(0), 3), fifty_nine, (Torn, 1, false));
+    check(&stuck(1, 0x0F), uncut(0), erased(0, None, 3, 187), sixty, (Erased, 0, false));
+    check(&stuck(1, 0x1F), uncut(0), erased(1, Some(0), 3, 186), fifty_nine, (Torn, 1, false));
     let indicator = [ALL, ALL, ALL, ALL, 0xFFFF_FFFF, 0xFFFF_FFE0];
-    check(&stuck(5, 0x1F), uncut(0), erased(1, Some(4), 3), indicator, (Erased, 1, false));
-    assert_eq!(mailbox(&stuck(5, 0x1F), &fers(0)).1.response[..4], [0xFB, 0xFF, 0xFF, 0xFF]);
+    check(&stuck(5, 0x1F), uncut(0), erased(1, Some(4), 3, 186), indicator, (Erased, 1, false));
+    assert_eq!(mailbox(&stuck(5, 0x1F), &fers(0)).1.response[..4], [0x41, 0xFF, 0xFF, 0xFF]);
     let (both, left) = (small(&[], &[(1, 0x1F), (5, 0x1F)]), [ALL, !0x1F, ALL, ALL, ALL, !0x1F]);
-    check(&both, uncut(0), erased(2, Some(0), 3), left, (Torn, 2, false));
+    check(&both, uncut(0), erased(2, Some(0), 3, 181), left, (Torn, 2, false));
 }
 
 /// P4: "in 6 the mask of 59 gives torn, 3 short".
 #[test]
 fn cases_6_and_7_a_cut_leaves_the_slot_torn() {
     let (new, low_59, low_60) = (small(&[], &[]), u64::MAX >> 5, u64::MAX >> 4);
-    let [once, twice] = [1, 2].map(|burns| Erasure::Cut { burns });
     let [at_59, at_60] = [0x07FF_FFFF, 0x0FFF_FFFF].map(|high| [1, 0, 0, 0, ALL, high]);
-    check(&new, cut(0, 0, low_59), once, at_59, (Torn, 3, false));
-    check(&new, cut(0, 0, low_60), once, at_60, (Torn, 2, false));
-    check(&new, cut(0, 1, 0xFFFF_FFFF), twice, [ALL, 0, 0, 0, ALL, ALL], (Torn, 2, false));
-    // "FERS again: as case 2."
+    check(&new, cut(0, 0, low_59), was_cut(1, 59), at_59, (Torn, 3, false));
+    check(&new, cut(0, 0, low_60), was_cut(1, 60), at_60, (Torn, 2, false));
+    let left = [ALL, 0, 0, 0, ALL, ALL];
+    check(&new, cut(0, 1, 0xFFFF_FFFF), was_cut(2, 64 + 31), left, (Torn, 2, false));
+    // "FERS again: as case 2", but for what it newly sets.
     let again = small(&[(0, ALL), (4, ALL), (5, ALL)], &[]);
-    check(&again, uncut(0), erased(0, None, 3), [ALL; 6], (Erased, 0, false));
-    assert_eq!(mailbox(&again, &fers(0)), mailbox(&new, &fers(0)));
+    check(&again, uncut(0), erased(0, None, 3, 96), [ALL; 6], (Erased, 0, false));
 }

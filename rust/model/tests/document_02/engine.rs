@@ -183,9 +183,13 @@ fn p5_17_is_for_the_mailbox_alone() {
     let mut lent = small(&[Waiting(8)], Some(Load));
     lent.drive.image[21] = 1; // Partition 1 is zeroizable.
     refused(&lent, (Mail::Fers, 0, 1), &[17]);
-    assert_eq!(direct(&lent, Command::Write { cell: 6, value: 3 }).0, Answer::Word(3));
-    assert_eq!(direct(&lent, Command::Zeroize { cell: 6 }).0, Answer::Word(0xFFFF_FFFF));
-    assert_eq!(direct(&lent, Command::Read { cell: 6 }).0, Answer::Word(0));
+    let word = |command| match direct(&lent, command).0 {
+        Answer::Word { word, .. } => word,
+        other => panic!("{command:?}: {other:?}"),
+    };
+    assert_eq!(word(Command::Write { cell: 6, value: 3 }), 3);
+    assert_eq!(word(Command::Zeroize { cell: 6 }), 0xFFFF_FFFF);
+    assert_eq!(word(Command::Read { cell: 6 }), 0);
     let (erasure, after) = erase(&lent, Erase { partition: 1, cut: None });
     assert!(matches!(erasure, Erasure::Erased { short_pairs: 0, .. }));
     assert_eq!(after.cache, lent.cache);

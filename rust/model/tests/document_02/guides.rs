@@ -37,29 +37,31 @@ fn flag_8_is_refused_exactly_on_a_partition_that_is_not_zeroizable() {
 }
 
 /// Document 01's ZEROIZE without the flag; with it "the answer is all ones at the word's width,
-/// stuck fuses or not. Withholding stays." The fuses are the same: "only the answered word depends
-/// on the flag".
+/// stuck fuses or not. Withholding stays." The fuses are the same, and by P8 how many of them are
+/// new: "only the answered word depends on the flag".
 #[test]
 fn zeroize_on_the_older_guide_answers_all_ones_and_burns_the_same() {
-    let pair = |zeros: u64| Word(u64::MAX - zeros);
-    // The word's first cell, the mark on it, the answers on the newer and on the older guide.
+    let pair = |zeros: u64| Some(u64::MAX - zeros);
+    // The word's first cell, the mark on it, the words told on the newer and on the older guide,
+    // and the new fuses that are told with both.
     let rows = [
-        (0, 0, pair(0), pair(0)),
-        (0, 0x0F, pair(0x0F), pair(0)),
-        (0, 0x1F, Withheld, Withheld),
-        (4, 0x1F, Withheld, Withheld),
-        (6, 0, Word(0xFFFF_FFFF), Word(0xFFFF_FFFF)),
-        (6, 0x1F, Word(0xFFFF_FFE0), Word(0xFFFF_FFFF)),
-        (7, u32::MAX, Word(0), Word(0xFFFF_FFFF)),
-        (8, 0x1F, pair(0x1F), pair(0)),
-        (12, u32::MAX, pair(0xFFFF_FFFF), pair(0)),
+        (0, 0, pair(0), pair(0), 0),
+        (0, 0x0F, pair(0x0F), pair(0), 0),
+        (0, 0x1F, None, None, 0),
+        (4, 0x1F, None, None, 0),
+        (6, 0, Some(0xFFFF_FFFF), Some(0xFFFF_FFFF), 32),
+        (6, 0x1F, Some(0xFFFF_FFE0), Some(0xFFFF_FFFF), 27),
+        (7, u32::MAX, Some(0), Some(0xFFFF_FFFF), 0),
+        (8, 0x1F, pair(0x1F), pair(0), 59),
+        (12, u32::MAX, pair(0xFFFF_FFFF), pair(0), 32),
     ];
-    for (cell, mark, newer, older) in rows {
+    for (cell, mark, newer, older, new_fuses) in rows {
+        let told = |word: Option<u64>| word.map_or(Withheld, |word| Word { word, new_fuses });
         let [newer_board, older_board] =
             [[7, 1, 1], [15, 9, 9]].map(|flags| drive(flags, (cell, mark)));
         let zeroize = |board| direct(board, Command::Zeroize { cell: cell as u32 });
         let [(one, after), (other, older_after)] = [&newer_board, &older_board].map(zeroize);
-        assert_eq!((one, other), (newer, older), "{cell} {mark:X}");
+        assert_eq!((one, other), (told(newer), told(older)), "{cell} {mark:X}");
         assert_eq!(after.drive.cells[cell], !mark, "{cell} {mark:X}");
         assert_eq!(after.drive.cells, older_after.drive.cells, "{cell} {mark:X}");
     }

@@ -2,6 +2,7 @@
 //! sections of document 01 that it changes, and with P1. Every expected value is a document's, or
 //! follows from its rules.
 
+mod charge;
 mod engine;
 mod guides;
 mod handles;

@@ -80,6 +80,7 @@ pub(crate) struct Answer {
     pub(crate) kind: u32,
     pub(crate) refusal: u32,
     pub(crate) word: u64,
+    pub(crate) new_fuses: u32,
 }
 
 /// `sci_erasure`
@@ -90,6 +91,7 @@ pub(crate) struct Erasure {
     pub(crate) short_pairs: u32,
     pub(crate) first_short: u32,
     pub(crate) burns: u32,
+    pub(crate) new_fuses: u32,
 }
 
 /// `sci_reply`

@@ -7,8 +7,8 @@ use Rattle.mailbox.proofs.effects.fers_effect.Tie as tie
 enum-known-answer : tie.Need-enum-known-answer
 enum-known-answer c = search needs
 
-two-numbers-requires : tie.Need-two-numbers-requires
-two-numbers-requires c κs = search needs
+three-numbers-requires : tie.Need-three-numbers-requires
+three-numbers-requires c κs = search needs
 
 effect-with-requires : tie.Need-effect-with-requires
 effect-with-requires c κs = search needs
@@ -26,7 +26,7 @@ refuse-requires-2 : tie.Need-refuse-requires-2
 refuse-requires-2 c κs = search needs
 
 returns : tie.Need-returns
-returns c = rw (c .before .before .before .answer .given .1) (c .effect-with .ensures ∙ rw (c .before .two-numbers .ensures))
+returns c = rw (c .before .before .before .answer .given .1) (c .effect-with .ensures ∙ rw (c .before .three-numbers .ensures))
 
 returns-2 : tie.Need-returns-2
 returns-2 c = rw (c .before .before .answer2 .given .1) (c .refuse .ensures)
@@ -39,7 +39,7 @@ fers-effect-spec =
     tie.close
     (tie.spec
     enum-known-answer
-    two-numbers-requires
+    three-numbers-requires
     effect-with-requires
     enum-known-answer-2
     refuse-requires
