@@ -86,7 +86,7 @@
  * The active slot is the first slot in map order that is not erased. The HEK is
  * available when there is an active slot and it is programmed.
  *
- * New fuses. A fuse is new when a burn set it that was not set before. WRITE, ZEROIZE,
+ * New fuses. A fuse is new when a burn set it and it was not set before. WRITE, ZEROIZE,
  * erasures, cut ones too, and FERS tell how many of the fuses that they burned are new:
  * the set fuses after the call minus those before it. A stuck fuse is never new, nor one
  * that was set already. The charge that a call drew from the supply is this number times

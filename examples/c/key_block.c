@@ -141,7 +141,7 @@ static bool make_table(void)
     return true;
 }
 
-/* The new fuses tell the charge that the burns drew: so many times that of one fuse. */
+/* The charge that the burns drew is the number of new fuses times that of one fuse. */
 static sci_erasure erase(void)
 {
     sci_erasure erasure = sci_erase(map, sizeof map, cells, CELLS, marks, CELLS, &context, SLOT);

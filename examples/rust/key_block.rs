@@ -124,7 +124,7 @@ impl Drive {
         Ok(())
     }
 
-    /// The new fuses tell the charge that the burns drew: so many times that of one fuse.
+    /// The charge that the burns drew is the number of new fuses times that of one fuse.
     fn erase(&mut self) -> Erasure {
         let erasure = erase(&MAP, &mut self.cells, &self.marks, &mut self.context, SLOT);
         match erasure {

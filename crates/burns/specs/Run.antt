@@ -1,6 +1,6 @@
 -- Document 01, "Erasing a partition", with requests P4 and P8: the order of burns, and the one run in this order that erasures, cut ones
 -- and FERS are. Cells and marks are the partition's, counted from where it starts. Assumes nothing.
-use Prim.Native.Nat.{ℕ, zero, suc, _+_, _-_, _/_}
+use Prim.Native.Nat.{ℕ, zero, suc, _+_, _-_, _*_, _/_}
 use mathlib.Core.Bool.{Bool, true, cond, not, _&&_}
 use mathlib.Core.List.{List, [], _∷_, _++_}
 use lib.ListN.{length}
@@ -86,6 +86,10 @@ run marks software k mask cells = burnsOf marks mask k (order software (length c
 
 -- ---- as the code has it
 
+-- the first cell of what burn number j burns after the indicator: the digest stands where another data word would
+abbrev pub placeOf : (software : Bool) (j : ℕ) → ℕ
+placeOf software j = (j - 1) * cellsIn (not software)
+
 -- what burn number j burns, and how a run ends whose last burn it is
 abbrev pub valueOf : (j k mask : ℕ) → ℕ
 valueOf j k mask = cond (eqb j k) mask allOnes
@@ -93,8 +97,8 @@ valueOf j k mask = cond (eqb j k) mask allOnes
 abbrev pub endOf : (j k : ℕ) → End
 endOf j k = cond (eqb j k) Cut Whole
 
-abbrev pub reportOf : End → (burns new : ℕ) → Report
-reportOf end burns new = record { end = end; burns = burns; new = new }
+abbrev pub asReport : End → (burns new : ℕ) → Report
+asReport end burns new = record { end = end; burns = burns; new = new }
 
 -- what the code reports of a run, with the cells that it left
 abbrev pub ranAs : Report → (cells : List ℕ) → Ran

@@ -13,11 +13,11 @@ use lib.Dec.{eqb}
 use borrow.Author.Tests.{ne-eqb, eq-eqb, eqb-true, eqb-false}
 use Rattle.laws.specs.Tests.{decided}
 use Rattle.fuse.specs.Fuse.{cellsIn, allOnes, burnWord, newFuses}
-use Rattle.fuse.specs.Charge.{new-most as few}
+use Rattle.fuse.specs.Charge.{new-most as word-most}
 use Rattle.burns.specs.declared.Word.{Word}
 use Rattle.burns.specs.declared.End.the-variants.{Whole, Stopped, Cut}
 use Rattle.burns.specs.Cells.{grown-burn}
-use Rattle.burns.specs.Run.{wordFrom, pairFrom, wordsFrom, dataWords, order, Tally, tallyOf, start, carry, goesOn, stopsAfter, ran, burnsOf, run, valueOf, endOf}
+use Rattle.burns.specs.Run.{wordFrom, pairFrom, wordsFrom, dataWords, order, Tally, tallyOf, start, carry, goesOn, stopsAfter, ran, burnsOf, run, placeOf, valueOf, endOf}
 
 -- ---- the order
 
@@ -100,13 +100,10 @@ module _ (software : Bool) (n j : ℕ) (d : Word) (p : 1 ≤ j) (h : j < length 
   pair-word e even = rw e (ap (λ (i : ℕ). getD (order false n) i d) before ∙ pair-next n (j - 1) d even (omega (arith, rw e at h, length-order false n)))
 
   -- before the digest it has the data's width
-  pub data-at : j + 1 < length (order software n) → getD (order software n) j d ≡ wordFrom (not software) ((j - 1) * cellsIn (not software))
+  pub data-at : j + 1 < length (order software n) → getD (order software n) j d ≡ wordFrom (not software) (placeOf software j)
   data-at l = ap (λ (i : ℕ). getD (order software n) i d) before ∙ data-word software n (j - 1) d (omega (arith, length-order software n))
 
--- its place, and whether it is a pair
-abbrev pub placeOf : (software : Bool) (j : ℕ) → ℕ
-placeOf software j = (j - 1) * cellsIn (not software)
-
+-- whatever its width
 pub later-word : (software : Bool) (n j : ℕ) (d : Word) → n % 2 ≡ 0 → 1 ≤ j → j < length (order software n)
     → getD (order software n) j d ≡ wordFrom (not software || eqb (placeOf software j) (n - 4)) (placeOf software j)
 later-word true n j d even p h = rw (mul-one (j - 1)) (cell-word true n j d p h refl)
@@ -180,7 +177,7 @@ module _ {marks : List ℕ} {software : Bool} {k mask : ℕ} {cells : List ℕ} 
             within = omega arith;
             uncut = omega (arith, h .uncut);
             len = ap (λ (x : Tally). length (x .cells)) b ∙ grown-burn marks (word .at) (word .wide) allOnes (t .cells) .len ∙ h .len;
-            new-most = omega (arith, h .new-most, ap (λ (x : Tally). x .new) b, few marks (word .at) (word .wide) allOnes (t .cells) refl);
+            new-most = omega (arith, h .new-most, ap (λ (x : Tally). x .new) b, word-most marks (word .at) (word .wide) allOnes (t .cells) refl);
             same = turned ∙ rw (s, more);
           }
 

@@ -7,11 +7,10 @@
 // leaves in `specs/Stops`, what any number of runs leaves in `specs/Safe`, how a run ends and after how
 // many burns in `specs/Ends`. It rests on `fuse`, `partition` and `laws`.
 ghost use mathlib.Core.Path.{_≡_};
-ghost use Prim.Native.Nat.{_+_, _-_, _*_, _%_, _<_, _≤_, min};
-ghost use mathlib.Core.Bool.{not};
+ghost use Prim.Native.Nat.{_+_, _-_, _%_, _<_, _≤_, min};
 ghost use lib.ListN.{length, getD};
 ghost use Rattle.fuse.specs.Fuse.{cellsIn};
-ghost use Rattle.burns.specs.Run.{pairFrom, order, goesOn, valueOf, endOf, reportOf, ranAs, run};
+ghost use Rattle.burns.specs.Run.{pairFrom, order, goesOn, placeOf, valueOf, endOf, asReport, ranAs, run};
 
 // A word of a partition: its first cell, counted from where the partition starts, and whether it is a
 // pair or one cell.
@@ -49,7 +48,7 @@ fn burn_count(n: usize, software: bool) -> usize
 // them.
 fn place_of(software: bool, j: usize) -> usize
     requires { ⌜ (1 ≤ j) × (j ≤ 2048) ⌝ }
-    ensures { λ r. ⌜ r ≡ (j - 1) * cellsIn (not software) ⌝ }
+    ensures { λ r. ⌜ r ≡ placeOf software j ⌝ }
 {
     if software { j - 1 } else { 2 * (j - 1) }
 }
@@ -100,7 +99,7 @@ fn end_of(j: usize, k: usize) -> End
 
 // What is told of a run.
 fn told(end: End, burns: usize, new: u32) -> Report
-    ensures { λ r. ⌜ r ≡ reportOf end burns new ⌝ }
+    ensures { λ r. ⌜ r ≡ asReport end burns new ⌝ }
 {
     Report {
         end: end,

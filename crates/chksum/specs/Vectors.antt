@@ -10,6 +10,8 @@ request-sums :
     ≡ 0xFFFF_FED2 ∷ 0xFFFF_FED0 ∷ 0xFFFF_FDF8 ∷ []
 request-sums = refl
 
--- case 2's response: short 0, first 0xFFFFFFFF; a response of zeros
-response-sums : responseSum (bytes4 0 ++ bytes4 0 ++ bytes4 0 ++ bytes4 0xFFFF_FFFF) ∷ responseSum (bytes4 0 ++ bytes4 0) ∷ [] ≡ 0xFFFF_FC04 ∷ 0 ∷ []
+-- case 2's response, short 0, first 0xFFFFFFFF, and by request P8 191 new fuses; a response of zeros
+response-sums :
+    responseSum (bytes4 0 ++ bytes4 0 ++ bytes4 0 ++ bytes4 0xFFFF_FFFF ++ bytes4 191) ∷ responseSum (bytes4 0 ++ bytes4 0) ∷ []
+    ≡ 0xFFFF_FB45 ∷ 0 ∷ []
 response-sums = refl

@@ -9,7 +9,7 @@ use Rattle.laws.specs.Refusals.{firstOf}
 use Rattle.context.specs.State.{State, withCells, Outcome, outcome, refusing}
 use Rattle.map.specs.declared.Entry.{Entry}
 use Rattle.map.specs.Map.{headerOf, entryOf, lifeCycle, zeroizable, secret, olderGuide}
-use Rattle.fuse.specs.Fuse.{allSet, pairOf, short, allOnes, burnWord, newFuses}
+use Rattle.fuse.specs.Fuse.{allSet, heldAt, short, allOnes, burnWord, newFuses}
 use Rattle.word.specs.declared.Role.{Role}
 use Rattle.word.specs.declared.Role.the-variants.{Data, Digest, Indicator}
 use Rattle.word.specs.declared.Lookup.{Lookup}
@@ -33,7 +33,7 @@ cellOf (Zeroize cell) = cell
 
 -- the word that starts at a cell: a pair or one cell
 abbrev pub wordOf : (wide : Bool) (at : ℕ) (cells : List ℕ) → ℕ
-wordOf true at cells = pairOf (getD cells at 0) (getD cells (at + 1) 0)
+wordOf true at cells = heldAt cells at
 wordOf false at cells = getD cells at 0
 
 -- ---- refusals 8, 9 and 10 of a command on the word of partition i that starts at its cell

@@ -1,19 +1,21 @@
--- The laws of the fuses that burns newly set (request P8): a burn adds what it reports to the set fuses of the whole array, cell by cell
--- those of v that are not stuck and were not set. They hold of any numbers, in cells and marks. Assumes nothing.
+-- The laws of the fuses that burns newly set (request P8): a burn adds what it reports to the set fuses of the whole array, whatever numbers
+-- stand in cells and marks; of a cell that is one these are the fuses of v that are not stuck and were not set. Then what the code counts.
+-- Assumes nothing.
 use Prim.Native.Nat.{ℕ, zero, suc, _+_, _-_, _*_, _/_, _%_, _^_, _≤_, _<_}
 use mathlib.Core.Path.{_≡_, sym, ap, _∙_}
 use mathlib.Core.Logic.{inl, inr}
 use mathlib.Core.Bool.{Bool, true, false}
 use mathlib.Core.List.{List, [], _∷_, _++_}
-use native.Mathlib.Nat.{le-trans, mod-eq-of-lt, mod-mod}
+use native.Mathlib.Nat.{le-trans, zero-div, mod-eq-of-lt, mod-mod}
 use native.Mathlib.Omega.{arith}
 use lib.ListN.{length, getD, set, take, drop, length-set, length-take, length-drop, take-append-drop}
 use lib.Seq.{take-all, drop-drop, getD-set-other}
-use lib.Bits.{bitAnd, bitOr, and-le-l, and-le-r, or-add-and, or-mod, or-shr, and-mod, and-shr}
+use lib.Bits.{bitAnd, bitOr, and-le-l, and-le-r, or-disjoint, or-add-and, or-mod, or-shr, and-mod, and-shr}
 use lib.Count.{ones, onesIn}
-use Rattle.laws.specs.Bits.{or-most}
+use lib.Pow.{ones-sub-lt}
+use Rattle.laws.specs.Bits.{ext, bit-or, bit-and, bit-not, at-digit, sub-full, or-most}
 use Rattle.laws.specs.Ones.{counted, count-le, count-mono, count-added, count-cat}
-use Rattle.fuse.specs.Fuse.{free, burn, pairOf, cellsIn, allOnes, burnCell, burnWord, setFuses, wordCells, newFuses}
+use Rattle.fuse.specs.Fuse.{free, burn, pairOf, heldAt, cellsIn, allOnes, burnCell, burnWord, setFuses, wordCells, newFuses}
 use Rattle.fuse.specs.Burn.{keeps, fits, burn-apart}
 
 -- ---- set fuses of cells
@@ -82,6 +84,15 @@ module _ (marks : List ℕ) (k : ℕ) (wide : Bool) (v : ℕ) (cells : List ℕ)
         ap setFuses behind,
       )
 
+-- "Stuck fuses and fuses that were set draw nothing": those that a cell gets are of v, not stuck, and were not set
+pub newly-set : (cell v stuck : ℕ) → cell < 2 ^ 32 → onesIn 32 (burn cell v stuck) ≡ onesIn 32 cell + onesIn 32 (bitAnd (bitAnd v (free stuck)) (free cell))
+newly-set cell v stuck h =
+    let added = bitAnd v (free stuck) in
+    let apart : bitAnd cell (bitAnd added (free cell)) ≡ 0 = ext _ _ (λ i. simp (bit-and, bit-not 32 h) (omega (arith, zero-div (2 ^ i)))) in
+    let same : bitOr cell (bitAnd added (free cell)) ≡ bitOr cell added = ext _ _ (λ i. simp (bit-or, bit-and, bit-not 32 h) (omega (arith, at-digit (sub-full 32 (ones-sub-lt 32 stuck)) i))) in
+    let new : bitOr cell added - cell ≡ bitAnd added (free cell) = omega (arith, same, or-disjoint cell (bitAnd added (free cell)) apart) in
+    rw (← new) (count-added 32 cell added)
+
 -- no more than a word has
 pub new-most : (marks : List ℕ) (k : ℕ) (wide : Bool) (v : ℕ) (cells : List ℕ) {new : ℕ} → new ≡ newFuses marks k wide v cells → new ≤ 64
 unfolding newFuses
@@ -148,10 +159,6 @@ module _ {low high low-stuck high-stuck : ℕ} (l : low < 2 ^ 32) (h : high < 2 
         ap (onesIn 64) parts,
         count-cat 32 32 (whole % 2 ^ 32) (whole / 2 ^ 32) (omega arith),
       )
-
--- what the pair at k holds
-abbrev pub heldAt : (cells : List ℕ) (k : ℕ) → ℕ
-heldAt cells k = pairOf (getD cells k 0) (getD cells (k + 1) 0)
 
 -- `after`, stored in its two cells, is what the burn of v leaves, and the ones of what it adds are the fuses newly set
 pub record PairBurned (marks : List ℕ) (k v : ℕ) (cells : List ℕ) (after : ℕ) : Type 0 where

@@ -23,6 +23,10 @@ burn cell v stuck = bitOr cell (bitAnd v (free stuck))
 abbrev pub pairOf : (low high : ℕ) → ℕ
 pairOf low high = high * 2 ^ 32 + low
 
+-- what the pair that starts at cell k holds
+abbrev pub heldAt : (cells : List ℕ) (k : ℕ) → ℕ
+heldAt cells k = pairOf (getD cells k 0) (getD cells (k + 1) 0)
+
 -- the number of ones of a pair
 abbrev pub onesOf : (pair : ℕ) → ℕ
 onesOf pair = onesIn 64 pair

@@ -3,7 +3,7 @@ use mathlib.Core.Path.{_≡_, refl}
 use mathlib.Core.Bool.{true, false}
 use mathlib.Core.List.{[], _∷_}
 use lib.Count.{onesIn}
-use Rattle.fuse.specs.Fuse.{burn, pairOf, onesOf, short, burnCell, burnWord}
+use Rattle.fuse.specs.Fuse.{burn, pairOf, onesOf, short, burnCell, burnWord, setFuses, newFuses}
 
 -- five fuses missing leave 59, which is short of 60; four leave 60, which is not
 fifty-nine : onesOf (pairOf 0xFFFF_FFFF 0xFFFF_FFE0) ≡ 59
@@ -34,3 +34,11 @@ narrow = refl
 wide : burnWord (0 ∷ 1 ∷ 0 ∷ 0 ∷ []) 1 true 0x0000_0002_0000_0003 (4 ∷ 0 ∷ 4 ∷ 4 ∷ []) ≡ 4 ∷ 2 ∷ 6 ∷ 4 ∷ []
 unfolding burnWord burnCell
 wide = refl
+
+-- newly set (request P8): of five fuses of v one is stuck and one was set, which has a mark besides; a word of one cell, and again the pair: none
+newly :
+    newFuses (0x11 ∷ 0 ∷ []) 0 true 0x0000_0003_0000_0013 (0x10 ∷ 0 ∷ []) ∷ newFuses (0 ∷ 0 ∷ []) 1 false 0x0000_0003_0000_0007 (0 ∷ 1 ∷ [])
+    ∷ newFuses (0x11 ∷ 0 ∷ []) 0 true 0x0000_0003_0000_0013 (0x12 ∷ 3 ∷ []) ∷ []
+    ≡ 3 ∷ 2 ∷ 0 ∷ []
+unfolding newFuses setFuses burnWord burnCell onesIn
+newly = refl

@@ -4,9 +4,10 @@
 // `specs/Charge`. It rests on `laws` alone.
 ghost use mathlib.Core.Path.{_≡_};
 ghost use mathlib.Core.Bool.{true, false};
-ghost use Prim.Native.Nat.{_+_, _<_, _≤_};
+ghost use Prim.Native.Nat.{_+_, _-_, _<_, _≤_};
 ghost use lib.ListN.{length};
-ghost use Rattle.fuse.specs.Fuse.{burn, pairOf, onesOf, short, cellsIn, burnCell, burnWord, newFuses};
+ghost use lib.Bits.{bitAnd, bitOr};
+ghost use Rattle.fuse.specs.Fuse.{allOnes, burn, pairOf, onesOf, short, cellsIn, burnCell, burnWord, newFuses};
 
 // What ZEROIZE and every whole burn of an erasure burn into a word.
 pub const ALL_ONES: u64 = 0xFFFF_FFFF_FFFF_FFFF;
@@ -16,6 +17,13 @@ fn burned(cell: u32, value: u32, stuck: u32) -> u32
     ensures { λ r. ⌜ r ≡ burn cell value stuck ⌝ }
 {
     cell | (value & !stuck)
+}
+
+// The same of a pair, as one number.
+fn burned_pair(fuses: u64, value: u64, stuck: u64) -> u64
+    ensures { λ r. ⌜ r ≡ bitOr fuses (bitAnd value (allOnes - stuck)) ⌝ }
+{
+    fuses | (value & !stuck)
 }
 
 // The 64 fuses of a pair as one number, the low half first.
@@ -62,7 +70,7 @@ fn burn_pair(cells: &mut [u32], marks: &[u32], at: usize, value: u64) -> u32
 {
     let before = pair(cells[at], cells[at + 1]);
     let stuck = pair(marks[at], marks[at + 1]);
-    let after = before | (value & !stuck);
+    let after = burned_pair(before, value, stuck);
     cells[at] = (after % 0x1_0000_0000) as u32;
     cells[at + 1] = (after / 0x1_0000_0000) as u32;
     u64::count_ones(after - before)

@@ -4,14 +4,14 @@
 use Prim.Native.Nat.{ℕ, _+_}
 use mathlib.Core.Path.{_≡_, refl, sym, ap, subst, _∙_}
 use mathlib.Core.Logic.{⊎-elim}
-use mathlib.Core.Bool.{true, false, cond, false≢true}
+use mathlib.Core.Bool.{Bool, true, false, cond, false≢true}
 use mathlib.Core.List.{List, [], _∷_}
 use native.Mathlib.Omega.{arith}
 use lib.Dec.{eqb}
 use lib.ListN.{length}
 use borrow.Author.Tests.{eqb-true, eq-eqb, ne-eqb, leb-false}
 use Rattle.laws.specs.Tests.{decided, cond-keeps}
-use Rattle.laws.specs.Refusals.{firstOf, first-both}
+use Rattle.laws.specs.Refusals.{firstOf, first-both, first-elim, not-numbered}
 use Rattle.context.specs.State.{State, Outcome, outcome, refusing}
 use Rattle.map.specs.Map.{entryOf, secret}
 use Rattle.fuse.specs.Fuse.{short, allOnes, setFuses}
@@ -19,6 +19,7 @@ use Rattle.fuse.specs.Charge.{burn-charge}
 use Rattle.burns.specs.declared.End.{End}
 use Rattle.burns.specs.declared.End.the-variants.{Whole, Stopped, Cut as CutEnd}
 use Rattle.burns.specs.Run.{Tally}
+use Rattle.word.specs.declared.Role.{Role}
 use Rattle.word.specs.declared.Lookup.{Lookup}
 use Rattle.word.specs.declared.Lookup.the-variants.{Word, Nothing as NoWord}
 use Rattle.word.specs.Word.{wordAt}
@@ -41,7 +42,7 @@ use Rattle.mailbox.specs.Mailbox.{refused, fersOf, partitionIn, accepted, doneO
 use Rattle.mailbox.specs.Laws.{fers-or-plain}
 use Rattle.mailbox.specs.Told.{ended-reads, mailbox-elim}
 use Rattle.history.specs.Secrets.{tellsNew}
-use Rattle.history.specs.Calls.{Call, Direct, Erase, EraseCut, Mailbox, TakeReply, MakeTable, Restart, after, afterAll}
+use Rattle.history.specs.Calls.{Call, Direct, Erase, EraseCut, Mailbox, TakeReply, MakeTable, Restart, Answering, refusal, after, afterAll}
 
 -- ---- the claim
 
@@ -76,7 +77,7 @@ abbrev pub sumOf : (image marks : List ℕ) → List Call → State → ℕ
 sumOf image marks [] s = 0
 sumOf image marks (call ∷ calls) s = reportOf image marks call s + sumOf image marks calls (after image marks call s)
 
--- it is by what the set fuses of the whole array have grown
+-- the set fuses of the whole array have grown by it
 abbrev pub Charge : Type 0
 Charge =
     (image marks : List ℕ) (calls : List Call) (s : State)
@@ -176,6 +177,12 @@ newIn Done = 0
 newIn Withheld = 0
 newIn (RefusedDirect number) = 0
 
+-- a command that burns its word
+abbrev pub burnsWord : Command → Bool
+burnsWord (Read cell) = false
+burnsWord (Write cell value) = true
+burnsWord (Zeroize cell) = true
+
 module _ (image marks : List ℕ) (s : State) where
   -- an answer with a number tells this one
   abbrev Tells : Answer → (new : ℕ) → Type 0
@@ -202,3 +209,19 @@ module _ (image marks : List ℕ) (s : State) where
       (first-both (λ (o : Outcome Answer State) (new : ℕ). Tells (o .told) new) (refusing RefusedDirect s) (λ _. 0)
       (directTests found command image marks s) (carriedOut found command image marks s) (newBy found command marks (s .cells))
       (λ n _ y. absurd (false≢true y)) (λ none. carried-tells found command))
+
+  -- and outside secret partitions there is one: a WRITE or a ZEROIZE that is carried out tells it
+  pub new-shown : (command : Command) {i : ℕ} {role : Role} {wide : Bool} → wordAt image (cellOf command) ≡ Word i role wide → secret (entryOf image i) ≡ false
+      → burnsWord command ≡ true → refusal (Answering (directOf image marks command s .told)) ≡ 0 → tellsNew (directOf image marks command s .told) ≡ true
+  unfolding carriedOut
+  new-shown command {i} {role} {wide} starts unsecret b =
+      subst (λ (o : Outcome Answer State). refusal (Answering (o .told)) ≡ 0 → tellsNew (o .told) ≡ true) (sym (direct-at image marks command s starts))
+      (first-elim (λ (o : Outcome Answer State). refusal (Answering (o .told)) ≡ 0 → tellsNew (o .told) ≡ true) (refusing RefusedDirect s)
+      (directTests (Word i role wide) command image marks s) (carriedOut (Word i role wide) command image marks s)
+      (λ n a r. absurd (not-numbered 0 (directTests (Word i role wide) command image marks s) refl a r))
+      (λ none _. by command b))
+    where
+      by : (command : Command) → burnsWord command ≡ true → tellsNew (carriedOut (Word i role wide) command image marks s .told) ≡ true
+      by (Read cell) y = absurd (false≢true y)
+      by (Write cell value) y = rw unsecret
+      by (Zeroize cell) y = rw unsecret

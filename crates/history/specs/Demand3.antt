@@ -124,7 +124,7 @@ comparedBytes response =
     let fields : List Field = responseFields Fers noNumbers in
     joined (map (λ (field : Field). bytesAt fields field response) (without Chksum (without New-fuses fields)))
 
--- of what an attempt tells, as an erasure or as FERS; any other call's is compared whole
+-- of what an attempt tells, as an erasure or as FERS: no attempt has another command's response
 abbrev pub compared : Told → Told
 compared (Answering answer) = Answering answer
 compared (Erasing answer) = Erasing (numberless answer)

@@ -145,7 +145,7 @@ module _ (image marks : List ℕ) (i : ℕ) (start : State) where
 
         by : Form image marks i start call → Reached (after image marks call s)
         by (refuses t l o f) = reached-same s (after image marks call s) r (as-lent image marks call s (f s (r .quiet)) .1) rest-now
-        by (runs k mask tell ready blind st c f) = reached-run ready k mask s r (after image marks call s) (as-lent image marks call s (f s (r .quiet)) .1) rest-now
+        by (runs k mask tell ready unnumbered st c f) = reached-run ready k mask s r (after image marks call s) (as-lent image marks call s (f s (r .quiet)) .1) rest-now
 
     -- full cells stay full
     pub filled-attempt : Filled (s .cells) → Filled (after image marks call s .cells)
@@ -153,7 +153,7 @@ module _ (image marks : List ℕ) (i : ℕ) (start : State) where
       where
         by : Form image marks i start call → getD (part (after image marks call s .cells)) j 0 ≡ full (getD (part marks) j 0) (getD (part cells) j 0)
         by (refuses t _ _ f) = rw (as-lent image marks call s (f s (r .quiet)) .1) (h j l)
-        by (runs k mask tell ready blind st c f) =
+        by (runs k mask tell ready unnumbered st c f) =
             rw (as-lent image marks call s (f s (r .quiet)) .1, part-after ready k mask s r (s .cells) (here ready k mask s r))
             (filled-kept (part marks) (software (entryOf image i)) k mask (part (s .cells)) j (getD (part cells) j 0) (h j l))
 
@@ -169,7 +169,7 @@ module _ (image marks : List ℕ) (i : ℕ) (start : State) where
       where
         by : Form image marks i start call → getD (part (after image marks call s .cells)) j 0 ≡ full (getD (part marks) j 0) (getD (part cells) j 0)
         by (refuses t m o f) = let same = ap refusal (as-lent image marks call s (f s (r .quiet)) .0) in absurd (omega arith)
-        by (runs k mask tell ready blind st c f) =
+        by (runs k mask tell ready unnumbered st c f) =
             let did = as-lent image marks call s (f s (r .quiet)) in
             let x = runFrom image marks i start k mask s in
             let ended = went-through tell (x .tally) (st (x .tally)) (x .end) (c s (r .quiet) u) (ap refusal (sym (did .0)) ∙ z) in
@@ -192,10 +192,10 @@ module _ (image marks : List ℕ) (i : ℕ) (start : State) where
           by : Form image marks i start call → compared (told image marks (callAlone call alone) begun) ≡ compared (told image marks call s)
           by (refuses t _ _ f) =
               ap compared (f begun begun-quiet (alone .response) (alone .block) (alone .same) .0 ∙ sym (as-lent image marks call s (f s (r .quiet)) .0))
-          by (runs k mask tell ready blind st c f) =
-              ap compared (f begun begun-quiet (alone .response) (alone .block) (alone .same) .0) ∙ blind _
+          by (runs k mask tell ready unnumbered st c f) =
+              ap compared (f begun begun-quiet (alone .response) (alone .block) (alone .same) .0) ∙ unnumbered _
               ∙ ap (λ (x : Answer). compared (tell x)) (answers-same image i _ _ (same-run ready k mask s r (c s (r .quiet) u)))
-              ∙ sym (blind _) ∙ ap compared (sym (as-lent image marks call s (f s (r .quiet)) .0))
+              ∙ sym (unnumbered _) ∙ ap compared (sym (as-lent image marks call s (f s (r .quiet)) .0))
 
       pub alone-cells : (refusal (told image marks call s) ≡ 0) ⊎ (refusal (told image marks call s) ≡ 15)
           → after image marks (callAlone call alone) begun .cells ≡ after image marks call s .cells
@@ -205,7 +205,7 @@ module _ (image marks : List ℕ) (i : ℕ) (start : State) where
           by (refuses t l o f) =
               let same = ap refusal (as-lent image marks call s (f s (r .quiet)) .0) in
               absurd (⊎-elim (λ (e : refusal (told image marks call s) ≡ 0). omega arith) (λ (e : refusal (told image marks call s) ≡ 15). o (sym same ∙ e)) z)
-          by (runs k mask tell ready blind st c f) =
+          by (runs k mask tell ready unnumbered st c f) =
               f begun begun-quiet (alone .response) (alone .block) (alone .same) .1
               ∙ same-run ready k mask s r (c s (r .quiet) u) .cells-same
               ∙ sym (as-lent image marks call s (f s (r .quiet)) .1)
@@ -219,4 +219,4 @@ module _ (image marks : List ℕ) (i : ℕ) (start : State) where
             let same = ap refusal (as-lent image marks call s (f s (r .quiet)) .0) in
             let refused : 1 ≤ refusal (told image marks call s) = omega arith in
             (refused, refused-unchanged image marks s call refused ∙ ap (λ (c : List ℕ). withCells c s) (r .still unready))
-        by (runs k mask tell ready blind st c f) = absurd (unready ready)
+        by (runs k mask tell ready unnumbered st c f) = absurd (unready ready)

@@ -24,7 +24,7 @@ use Rattle.drive.specs.Drive.{wholeArrays, surveyAt, slotAt, openSlot, activeSl
 use Rattle.engine.specs.declared.Order.the-variants.{Nothing, Clear, Load}
 use Rattle.engine.specs.declared.EngineReply.the-variants.{Done}
 use Rattle.engine.specs.Engine.{zeros}
-use Rattle.erasure.specs.declared.Answer.the-variants.{Ended, Cut}
+use Rattle.erasure.specs.declared.Answer.the-variants.{Ended, Cut, Refused as RefusedErasure}
 use Rattle.erasure.specs.Erasure.{runOn, eraseOf}
 use Rattle.codec.specs.declared.Command.the-variants.{Clkc, Klod, Kunl, Fers, Fsta}
 use Rattle.codec.specs.Fields.{codeOf}
@@ -32,6 +32,7 @@ use Rattle.codec.specs.Request.{requestTests}
 use Rattle.mailbox.specs.declared.Reply.the-variants.{Refused, Accepted}
 use Rattle.mailbox.specs.Mailbox.{doneOf}
 use Rattle.reply.specs.Reply.{takingOf}
+use Rattle.history.specs.Demand3.{numberless, comparedBytes}
 use Rattle.history.specs.Calls.{Call, Erase, EraseCut, Mailbox, TakeReply, Told, Erasing, Replying, told, after, afterAll}
 
 -- "P = 2, C = 12, B = 60, E = 8 .. Cell 0 is 1, all others 0, no stuck marks, cache empty", no reply awaited, and by request P6 with a table,
@@ -144,6 +145,14 @@ unfolding cases doneOf requestTests mapGood wholeArrays every headerGood fillerG
     stateOf marked shortAt zeroCell countBelow firstFrom onesIn cacheOf tableOf isAt emptied runOn eraseOf burnsOf order wordsFrom stopsAfter goesOn burnWord burnCell
     newFuses setFuses lowestShort
 table = refl
+
+-- request P8: of a response of 24 bytes demand 3 compares all but the first four and the last four, of an erasure's answer all but the last
+-- number
+compares :
+    (comparedBytes (0 ∷ 1 ∷ 2 ∷ 3 ∷ 4 ∷ 5 ∷ 6 ∷ 7 ∷ 8 ∷ 9 ∷ 10 ∷ 11 ∷ 12 ∷ 13 ∷ 14 ∷ 15 ∷ 16 ∷ 17 ∷ 18 ∷ 19 ∷ 20 ∷ 21 ∷ 22 ∷ 23 ∷ [])
+    ≡ 4 ∷ 5 ∷ 6 ∷ 7 ∷ 8 ∷ 9 ∷ 10 ∷ 11 ∷ 12 ∷ 13 ∷ 14 ∷ 15 ∷ 16 ∷ 17 ∷ 18 ∷ 19 ∷ [])
+    × (map numberless (Ended 1 2 3 4 ∷ Cut 1 2 ∷ RefusedErasure 15 1 ∷ []) ≡ Ended 1 2 3 0 ∷ Cut 1 0 ∷ RefusedErasure 15 1 ∷ [])
+compares = (refl, refl)
 
 -- ---- case 10, where by request P5 each order is answered done
 

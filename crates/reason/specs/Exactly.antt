@@ -6,13 +6,13 @@ use mathlib.Core.Logic.{_⊎_, inl, inr, ⊎-elim, _↔_}
 use mathlib.Core.Bool.{Bool, true, false, not, cond, false≢true}
 use mathlib.Core.List.{List}
 use native.Mathlib.Omega.{arith}
-use lib.ListN.{length, getD, length-take}
+use lib.ListN.{length, length-take}
 use borrow.Author.Tests.{ltb-true, ltb-false, lt-ltb, le-ltb, not-true, not-false}
 use Rattle.laws.specs.Tests.{cond-keeps}
 use Rattle.laws.specs.Below.{First, first-tells, first-is, all-at, all-fails, all-holds, fails-at}
 use Rattle.context.specs.Laws.{part-at}
 use Rattle.map.specs.Map.{headerOf, entryOf, slot, mapGood}
-use Rattle.fuse.specs.Fuse.{pairOf, onesOf}
+use Rattle.fuse.specs.Fuse.{heldAt, onesOf}
 use Rattle.partition.specs.Partition.{pairs, pairAt, indicator, shortAt, lowestBesides, tornPair}
 use Rattle.partition.specs.Marked.{torn-within}
 use Rattle.partition.specs.declared.State.the-variants.{Blank as BlankState, Torn as TornState, Programmed as ProgrammedState}
@@ -29,7 +29,7 @@ use Rattle.reason.specs.Laws.{some-short, by-slot}
 
 -- pair j of partition i, in the whole array
 abbrev pub pairIn : (image cells : List ℕ) (i j : ℕ) → ℕ
-pairIn image cells i j = let k : ℕ = entryOf image i .first + 2 * j in pairOf (getD cells k 0) (getD cells (k + 1) 0)
+pairIn image cells i j = heldAt cells (entryOf image i .first + 2 * j)
 
 -- "its first short pair and that pair's ones", where "P1 passes over the indicator" (P4): among the pairs before the indicator, the one that
 -- starts at this cell of the whole array has so many ones, which is below the bound, and no pair before it has fewer ones than the bound

@@ -61,7 +61,7 @@ pub struct SciAnswer {
 }
 
 // An erasure's answer. kind: 0 ended (the partition is erased exactly if `short` is 0 or `first` is its
-// indicator's first cell, else torn), 1 cut, 2 refused.
+// indicator's first cell, else torn), 1 cut, 2 refused. new: the fuses newly set, 0 where refused.
 #[repr(C)]
 pub struct SciErasure {
     pub kind: u32,

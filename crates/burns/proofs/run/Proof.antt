@@ -39,10 +39,11 @@ same-length c = search needs
 
 returns : tie.Need-returns Inv-loop μ-loop
 returns c =
-    let burn = c .before .before .before .before .burn-word .ensures in
-    let start = c .before .before .before .before .before .before .before .before .before in
+    let done = c .before .before .before .before in
+    let burn = done .burn-word .ensures in
+    let start = done .before .before .before .before .before in
     rw (c .told .ensures)
-    (first-cut _ _ _ _ (start .args .cells .now) (c .before .before .before .before .before .value-of .ensures) (burn .0) (burn .1) (c .before .if1 .taken), omega (arith, start .pre .0))
+    (first-cut _ _ _ _ (start .args .cells .now) (done .before .value-of .ensures) (burn .0) (burn .1) (c .before .if1 .taken), omega (arith, start .pre .0))
 
 goes-on-requires : tie.Need-goes-on-requires Inv-loop μ-loop
 goes-on-requires c κs = search needs
@@ -55,11 +56,13 @@ same-length-2 c = search needs
 
 returns-2 : tie.Need-returns-2 Inv-loop μ-loop
 returns-2 c =
-    let burn = c .before .before .before .before .before .before .before .burn-word .ensures in
+    let past = c .before .before .before .before in
+    let done = past .before .before .before in
+    let burn = done .burn-word .ensures in
     let off = sym (c .before .before .goes-on .ensures) ∙ not-true _ (c .before .if2 .taken) in
-    let start = c .before .before .before .before .before .before .before .before .before .before .before .before in
+    let start = done .before .before .before .before .before in
     rw (c .told2 .ensures)
-    (first-stops _ _ _ _ (start .args .cells .now) (c .before .before .before .before .before .before .before .before .value-of .ensures) (burn .0) (burn .1) (c .before .before .before .before .if1 .left) off, omega (arith, start .pre .0))
+    (first-stops _ _ _ _ (start .args .cells .now) (done .before .value-of .ensures) (burn .0) (burn .1) (past .if1 .left) off, omega (arith, start .pre .0))
 
 last-burn-requires : tie.Need-last-burn-requires Inv-loop μ-loop
 last-burn-requires c κs = search needs
@@ -81,12 +84,16 @@ module _ (c : tie.After-last-burn Inv-loop μ-loop) where
   last-least : 1 ≤ c .last-burn .result
   last-least = omega (arith, last-is, order-two (begun .args .software) (length (begun .args .cells .now)), c .before .before .before .before .if1 .left)
 
+  abbrev done : tie.After-burn-word Inv-loop μ-loop
+  done = c .before .before .before .before .before .before .before
+
   goes : Running (begun .args .marks .now) (begun .args .software) (begun .args .k) (begun .args .mask) (begun .args .cells .now)
-      (tallyOf (c .before .before .before .before .before .before .before .burn-word .last .0) 1 (c .before .before .before .before .before .before .before .burn-word .result))
+      (tallyOf (done .burn-word .last .0) 1 (done .burn-word .result))
   goes =
-      let burn = c .before .before .before .before .before .before .before .burn-word .ensures in
+      let burn = done .burn-word .ensures in
+      let on = sym (c .before .before .goes-on .ensures) ∙ not-false _ (c .before .if2 .left) in
       first-goes (begun .args .marks .now) (begun .args .software) (begun .args .k) (begun .args .mask) (begun .args .cells .now)
-      (c .before .before .before .before .before .before .before .before .value-of .ensures) (burn .0) (burn .1) (c .before .before .before .before .if1 .left) (sym (c .before .before .goes-on .ensures) ∙ not-false _ (c .before .if2 .left))
+      (done .before .value-of .ensures) (burn .0) (burn .1) (c .before .before .before .before .if1 .left) on
 
 loop-holds : tie.Need-loop-holds Inv-loop μ-loop
 loop-holds c = ((λ s h. h), omega arith, last-least c)
@@ -175,14 +182,15 @@ same-length-3 c = search (needs, going (c .before .before .before .before .befor
 
 returns-3 : tie.Need-returns-3 Inv-loop μ-loop
 returns-3 c =
-    let burn = c .before .before .before .before .burn-word3 .ensures in
+    let done = c .before .before .before .before in
+    let burn = done .burn-word3 .ensures in
     let left = c .before .before .before .before .before .before .before .before in
     let loop = left .before in
     let word = c .before .before .before .before .before .before .before .word-at .ensures .0 in
     let all : (loop .loop .burns ≡ start loop .args .k → ⊥) → burns-of (loop .before) ≤ loop .loop .burns + 1 =
     λ uncut. omega (arith, uncut, left .loop-test .left, loop .loop .inv .2, last-is (loop .before)) in
     rw (c .told3 .ensures, c .before .end-of .ensures)
-    (last-turn _ _ _ _ _ (going loop) (loop .loop .inv .1) (burns-few loop) word all (c .before .before .before .before .before .value-of2 .ensures) (burn .0) (burn .1), all-few loop)
+    (last-turn _ _ _ _ _ (going loop) (loop .loop .inv .1) (burns-few loop) word all (done .before .value-of2 .ensures) (burn .0) (burn .1), all-few loop)
 
 pub run-spec : {M : Type 1} → statement M
 run-spec =

@@ -1,4 +1,4 @@
--- `direct::written` meets its contract: done or the word. Assumes nothing.
+-- `direct::written` meets its contract: done, or the word with the fuses newly set. Assumes nothing.
 use borrow.Author.Needs.{needs}
 use Rattle.direct.proofs.written.Statement.{statement}
 use Rattle.direct.proofs.written.Tie as tie

@@ -11,22 +11,18 @@ use Rattle.fuse.specs.Charge.{PairBurned, pair-burned}
 use Rattle.fuse.proofs.burn_pair.Statement.{statement}
 use Rattle.fuse.proofs.burn_pair.Tie as tie
 
+abbrev start : tie.After-burned-pair → tie.Start
+start c = c .before .before .before .before .before .before .before .before .before
+
 -- what the burn of both makes of the cells that were read
-abbrev start : tie.After-pair2 → tie.Start
-start c = c .before .before .before .before .before .before .before .before
-
-abbrev after : tie.After-pair2 → ℕ
-after c = bitOr (c .before .before .before .pair .result) (bitAnd (start c .args .value) (allOnes - c .pair2 .result))
-
-burned : (c : tie.After-pair2) →
-    let a = start c .args in PairBurned (a .marks .now) (a .at) (a .value) (a .cells .now) (after c)
+burned : (c : tie.After-burned-pair) → let a = start c .args in PairBurned (a .marks .now) (a .at) (a .value) (a .cells .now) (c .burned-pair .result)
 burned c =
     let a = start c .args in
-    let cell = c .before .before .before .before .before .before .before .slice-known .given in
-    let mark = c .before .before .before .before .before .before .shared-slice-known .given in
+    let cell = c .before .before .before .before .before .before .before .before .slice-known .given in
+    let mark = c .before .before .before .before .before .before .before .shared-slice-known .given in
     pair-burned (a .marks .now) (a .at) (a .value) (a .cells .now) (start c .fits .value .fits) (start c .pre .0)
     (cell (a .at) .fits) (cell (a .at + 1) .fits) (mark (a .at) .fits) (mark (a .at + 1) .fits)
-    (ap₂ (λ (x y : ℕ). bitOr x (bitAnd (a .value) (allOnes - y))) (c .before .before .before .pair .ensures) (c .pair2 .ensures))
+    (c .burned-pair .ensures ∙ ap₂ (λ (x y : ℕ). bitOr x (bitAnd (a .value) (allOnes - y))) (c .before .before .before .before .pair .ensures) (c .before .pair2 .ensures))
 
 mul-pair : tie.Need-mul-pair
 mul-pair c = search needs
@@ -64,6 +60,9 @@ shared-slice-read-pair-2 c = search needs
 pair-requires-2 : tie.Need-pair-requires-2
 pair-requires-2 c κs = search needs
 
+burned-pair-requires : tie.Need-burned-pair-requires
+burned-pair-requires c κs = search needs
+
 cast-cells : tie.Need-cast-cells
 cast-cells c = search needs
 
@@ -74,7 +73,7 @@ slice-write-cells : tie.Need-slice-write-cells
 slice-write-cells c = search needs
 
 cast-cells-2 : tie.Need-cast-cells-2
-cast-cells-2 c = record { fits = burned c .high }
+cast-cells-2 c = search needs
 
 add-cells : tie.Need-add-cells
 add-cells c = search needs
@@ -83,16 +82,16 @@ mul-cells-2 : tie.Need-mul-cells-2
 mul-cells-2 c = search needs
 
 slice-write-cells-2 : tie.Need-slice-write-cells-2
-slice-write-cells-2 c = simp length-set (omega (arith, c .before .before .before .before .before .before .before .before .pre .0))
+slice-write-cells-2 c = simp length-set (omega (arith, start c .pre .0))
 
 sub-result : tie.Need-sub-result
-sub-result c = omega (arith, burned c .grows, c .before .before .before .pair .ensures)
+sub-result c = omega (arith, burned c .grows, c .before .before .before .before .pair .ensures)
 
 same-length : tie.Need-same-length
 same-length c = search needs
 
 returns : tie.Need-returns
-returns c = (burned c .stored, ap (λ (x : ℕ). ones (after c - x)) (c .before .before .before .pair .ensures) ∙ burned c .new)
+returns c = (burned c .stored, ap (λ (x : ℕ). ones (c .burned-pair .result - x)) (c .before .before .before .before .pair .ensures) ∙ burned c .new)
 
 pub burn-pair-spec : {M : Type 1} → statement M
 burn-pair-spec =
@@ -110,6 +109,7 @@ burn-pair-spec =
     mul-pair-4
     shared-slice-read-pair-2
     pair-requires-2
+    burned-pair-requires
     cast-cells
     mul-cells
     slice-write-cells

@@ -14,6 +14,7 @@ pub(super) const OF_SUMS: [Row<Fault>; 5] = [
     }),
     ("a cut that reports whole words", |m| m.recounts(|_| u64::MAX, newly_set)),
     ("a cut that leaves out the word it was cut in", |m| m.recounts(|_| 0, newly_set)),
+    // A word has at most 64; of a secret one ZEROIZE tells none.
     ("new fuses in 8 bits", |m| !m.is("ZEROIZE") && m.reports(m.set_since() & 0xFF)),
 ];
 

@@ -171,7 +171,7 @@ impl Step<'_> {
             }
             Said::Reply(Reply::Accepted { .. }) => {
                 let fields = response(&self.after, response_length(self.said));
-                Some([fields[3], fields[4], fields[5]])
+                fields.get(3..6)?.try_into().ok()
             }
             _ => None,
         }
