@@ -84,7 +84,7 @@ module _ (marks : List ℕ) (k : ℕ) (wide : Bool) (v : ℕ) (cells : List ℕ)
         ap setFuses behind,
       )
 
--- "Stuck fuses and fuses that were set draw nothing": those that a cell gets are of v, not stuck, and were not set
+-- stuck fuses and fuses that were set draw nothing: those that a cell gets are of v, not stuck, and were not set
 pub newly-set : (cell v stuck : ℕ) → cell < 2 ^ 32 → onesIn 32 (burn cell v stuck) ≡ onesIn 32 cell + onesIn 32 (bitAnd (bitAnd v (free stuck)) (free cell))
 newly-set cell v stuck h =
     let added = bitAnd v (free stuck) in

@@ -32,7 +32,7 @@ use Rattle.codec.specs.Request.{requestTests}
 use Rattle.mailbox.specs.declared.Reply.the-variants.{Refused, Accepted}
 use Rattle.mailbox.specs.Mailbox.{doneOf}
 use Rattle.reply.specs.Reply.{takingOf}
-use Rattle.history.specs.Demand3.{numberless, comparedBytes}
+use Rattle.history.specs.Demand3.{compared}
 use Rattle.history.specs.Calls.{Call, Erase, EraseCut, Mailbox, TakeReply, Told, Erasing, Replying, told, after, afterAll}
 
 -- "P = 2, C = 12, B = 60, E = 8 .. Cell 0 is 1, all others 0, no stuck marks, cache empty", no reply awaited, and by request P6 with a table,
@@ -146,13 +146,16 @@ unfolding cases doneOf requestTests mapGood wholeArrays every headerGood fillerG
     newFuses setFuses lowestShort
 table = refl
 
--- request P8: of a response of 24 bytes demand 3 compares all but the first four and the last four, of an erasure's answer all but the last
--- number
+-- request P8, what demand 3 compares: of an erasure that ended or was cut all but the last number, of a response of 24 bytes all but the first
+-- four and the last four; and every reply
 compares :
-    (comparedBytes (0 ∷ 1 ∷ 2 ∷ 3 ∷ 4 ∷ 5 ∷ 6 ∷ 7 ∷ 8 ∷ 9 ∷ 10 ∷ 11 ∷ 12 ∷ 13 ∷ 14 ∷ 15 ∷ 16 ∷ 17 ∷ 18 ∷ 19 ∷ 20 ∷ 21 ∷ 22 ∷ 23 ∷ [])
-    ≡ 4 ∷ 5 ∷ 6 ∷ 7 ∷ 8 ∷ 9 ∷ 10 ∷ 11 ∷ 12 ∷ 13 ∷ 14 ∷ 15 ∷ 16 ∷ 17 ∷ 18 ∷ 19 ∷ [])
-    × (map numberless (Ended 1 2 3 4 ∷ Cut 1 2 ∷ RefusedErasure 15 1 ∷ []) ≡ Ended 1 2 3 0 ∷ Cut 1 0 ∷ RefusedErasure 15 1 ∷ [])
-compares = (refl, refl)
+    map compared
+    (Erasing (Ended 1 2 3 4) ∷ Erasing (Cut 1 2) ∷ Erasing (RefusedErasure 15 1)
+    ∷ Replying (Accepted 24 (Clear 7)) (0 ∷ 1 ∷ 2 ∷ 3 ∷ 4 ∷ 5 ∷ 6 ∷ 7 ∷ 8 ∷ 9 ∷ 10 ∷ 11 ∷ 12 ∷ 13 ∷ 14 ∷ 15 ∷ 16 ∷ 17 ∷ 18 ∷ 19 ∷ 20 ∷ 21 ∷ 22 ∷ 23 ∷ [])
+    ∷ Replying (Refused 8) [] ∷ [])
+    ≡ Erasing (Ended 1 2 3 0) ∷ Erasing (Cut 1 0) ∷ Erasing (RefusedErasure 15 1)
+    ∷ Replying (Accepted 24 (Clear 7)) (4 ∷ 5 ∷ 6 ∷ 7 ∷ 8 ∷ 9 ∷ 10 ∷ 11 ∷ 12 ∷ 13 ∷ 14 ∷ 15 ∷ 16 ∷ 17 ∷ 18 ∷ 19 ∷ []) ∷ Replying (Refused 8) [] ∷ []
+compares = refl
 
 -- ---- case 10, where by request P5 each order is answered done
 
