@@ -1,68 +1,60 @@
 /*
  * The proved key block of a drive controller: the map of its fuses, read and
  * written, the states of its partitions, why it offers no key, direct commands on
- * its fuses, the erasure of a partition, the buffer of its fuses, filled by a restart
- * and checked, the key cache of 16 places, the table of transport handles, the
- * mailbox, and the engine's reply to its orders. Link
+ * its fuses, the erasure of a partition, the key cache of 16 places, the table of
+ * transport handles, the mailbox, and the engine's reply to its orders. Link
  * libsciambrunola.a: it is built for x86-64 Linux (System V calling convention),
  * position-independent, with no heap, no C library and no undefined symbol. Call it
  * from ordinary threads and not from an interrupt handler: it uses the red zone below
  * the stack pointer and the SSE registers. It has no unwind tables, so no exception and
  * no cancellation may pass through a call of it, and a backtrace ends there.
  *
- * Any bytes, texts, cells, marks, buffers, contexts, handles, requests and lengths get an
- * answer, and every call ends. What the caller must see to, and all of it:
+ * Any bytes, texts, cells, marks, contexts, handles, requests and lengths get an answer,
+ * and every call ends. What the caller must see to, and all of it:
  *   - every pointer is valid for its count (and not null, even for a count of
  *     0) and aligned for its type; a count is in elements of that type;
  *   - context points to one sci_context; states and short_pairs are arrays of
  *     SCI_PARTITIONS elements;
- *   - what a call may write, that is what it gets by a pointer that is not const
- *     (cells, but for sci_states, sci_why, sci_restart and sci_check_buffer; context,
- *     but for sci_cache_place, sci_check_buffer and sci_buffer_numbers; for sci_restart
- *     also buffer; for sci_mailbox also response and block; for sci_states states and
- *     short_pairs; for sci_write_map image), overlaps nothing else that the call gets.
- *     What is const may overlap.
+ *   - a buffer that a call may write, that is one whose pointer is not const
+ *     (cells, but for sci_states and sci_why; context, but for sci_cache_place;
+ *     for sci_mailbox also response and block; for sci_states states and
+ *     short_pairs; for sci_write_map image), overlaps no other buffer of the call.
+ *     Buffers that are const may overlap.
  * The archive has no memory of its own: all that a call knows is what it is lent,
  * and all that is kept between calls is the caller's.
  *
  * What is lent to every function, save that sci_partition gets the image only,
- * sci_write_map a text and a buffer for the image, sci_engine_reply, sci_cache_place
- * and sci_buffer_numbers the context only, sci_make_table the context and the handles
- * with their algorithms, and sci_states and sci_why no context; the buffer is lent to
- * sci_read, sci_restart and sci_check_buffer alone:
+ * sci_write_map a text and a buffer for the image, sci_engine_reply, sci_restart and
+ * sci_cache_place the context only, sci_make_table the context and the handles with
+ * their algorithms, and sci_states and sci_why no context:
  *   image, image_bytes  the map of the fuses, as below; only read, but for
  *                       sci_write_map, which writes it
  *   cells, cell_count   the fuse cells, 32 fuses each; written by sci_write,
  *                       sci_zeroize, sci_erase, sci_erase_cut and, for FERS
  *                       alone, sci_mailbox. Only read by sci_read, though the
- *                       pointer is not const there either, and by sci_states,
- *                       sci_why, sci_restart and sci_check_buffer
+ *                       pointer is not const there either, and by sci_states and
+ *                       sci_why
  *   marks, mark_count   the stuck marks, one number for each cell: a fuse whose
  *                       bit is set here will not burn; if it is set, it stays
  *                       so. Only read
- *   buffer,             the buffer, one number for each cell, as below; written by
- *   buffer_count        sci_restart alone
  *   context             what the key block keeps from call to call: the key
  *                       cache, SCI_PLACES places, each empty or with a 64-bit
- *                       tag, whether the engine's reply is awaited, the table of
- *                       handles, and for each partition the numbers beside the
- *                       buffer, as below. Have one sci_context for each
+ *                       tag, whether the engine's reply is awaited, and the table
+ *                       of handles, as below. Have one sci_context for each
  *                       drive, all zeros before its first call (sci_context
  *                       context = {0};), which is an empty cache, no reply
- *                       awaited, no table, and zeros beside the buffer. Then make
- *                       its table, by sci_make_table: before that every mailbox
- *                       command is refused; and call sci_restart. Keep the context
- *                       between calls, and over restarts and cuts too, for the
- *                       table's sake. Do not change or interpret its words: later
- *                       releases may add to them and lay them out otherwise, so
- *                       compile with the header of the archive that you link.
- *                       sci_cache_place tells what a place has, EHDL what the
- *                       table has, sci_buffer_numbers what stands beside the
- *                       buffer. Changed by sci_mailbox, sci_engine_reply,
- *                       sci_make_table, sci_erase_cut and sci_restart, and, where
- *                       a partition's check is skipped from then on, by
- *                       sci_zeroize and sci_erase. sci_read and sci_write leave it
- *                       as it was, though the pointer is not const there either
+ *                       awaited and no table. Then make its table, by
+ *                       sci_make_table: before that every mailbox command is
+ *                       refused. Keep the context between calls, and over
+ *                       restarts and cuts too, for the table's sake. Do not change
+ *                       or interpret its words: later releases may add to them
+ *                       and lay them out otherwise, so compile with the header of
+ *                       the archive that you link. sci_cache_place tells what a
+ *                       place has, EHDL what the table has. Changed by
+ *                       sci_mailbox, sci_engine_reply, sci_make_table,
+ *                       sci_erase_cut and sci_restart alone. sci_read, sci_write,
+ *                       sci_zeroize and sci_erase leave it as it was, though the
+ *                       pointer is not const there either
  *
  * The map, each u16 little-endian:
  *   header      four u16: partitions P (1 to 16), cells C (4 to 2,048), bound B
@@ -71,13 +63,12 @@
  *   E on        P entries of 8 bytes, and nothing behind them: u16 first cell,
  *               u16 cells n, u8 kind (SCI_KIND_: 0 hardware, 1 software, 2 life
  *               cycle), u8 flags (SCI_FLAG_: 1 zeroizable, 2 secret, 4 HEK slot, 8
- *               older guide, by which ZEROIZE answers all ones, see sci_zeroize, 16
- *               buffered, by which READ answers from the buffer, see below; higher
- *               bits zero), two zero bytes
+ *               older guide, by which ZEROIZE answers all ones, see sci_zeroize;
+ *               higher bits zero), two zero bytes
  * First and n are even, n at least 4, and at least 6 if zeroizable. Entries
  * ascend without overlap and end by C; gaps are allowed. Life cycle is never
  * zeroizable, secret needs kind 0, a slot is zeroizable and secret, and a partition on
- * the older guide is zeroizable. Any partition may be buffered.
+ * the older guide is zeroizable.
  *
  * Words. An even cell and the next are a pair, low half first. A zeroizable
  * partition ends with its indicator, a pair, and before it the digest, a pair;
@@ -107,32 +98,6 @@
  * may have drawn charge. An erasure and FERS do tell it of a secret partition: how many
  * fuses of all its words together, the seed's among them, were unset before, stuck ones
  * aside. So does sci_erase_cut, see there. A call that is refused has no new fuse.
- *
- * The buffer. In the guide, document 001, buffer registers see an erasure only after a
- * reset. The buffer stands for them: as many cells as the map says, the caller's, which
- * sci_restart fills from the fuses, all of them, and no other call changes. READ of a
- * word of a buffered partition (SCI_FLAG_BUFFERED) answers from it, of any other from the
- * fuses. States, the HEK, WRITE, ZEROIZE, erasures and FERS go by the fuses alone, so that
- * after an erasure READ still answers the words of before, until the drive restarts.
- * Beside the buffer stand, in the context and for each partition, buffered or not, the
- * ones of its cells in the buffer, and whether its consistency check is skipped:
- * sci_buffer_numbers tells them. The ones are true of the buffer from a restart on, while
- * only these calls change buffer and context. The check, sci_check_buffer, compares a
- * buffered partition's cells in the buffer with its fuses, pair by pair, digest and
- * indicator too: after a WRITE that set a fuse it differs until the next restart. It is
- * skipped exactly when the partition was counted as zeroized at the last restart (it is
- * zeroizable, and its indicator is not short: by the bound, not by one set fuse), or when
- * since then a ZEROIZE of a word of it has answered a word, or an erasure of it has
- * ended, by sci_erase, by sci_erase_cut whose order ended before burn k, or by FERS. A
- * ZEROIZE that was withheld or refused, and an erasure that was cut or refused, 15 too,
- * does not count. The last restart is the last that was not refused.
- * So a drive begins with a restart, and restarts after a power failure, for which a cut
- * stands: it leaves the buffer and all that stands beside it as it was. Before the first
- * restart the buffer holds what the caller put there, and in a context of zeros the ones
- * are 0 and no check is skipped.
- * Warning: the buffer has the cells of secret partitions too, the seed among them, and has
- * them after an erasure until the next restart. No call answers a word of them, but the
- * memory is the caller's: keep it from others as the fuses are kept.
  *
  * The key cache and the engine. CLKC, KLOD and KUNL have an order for the encryption
  * engine, and the engine's reply to it is awaited until the drive hands it in; also the
@@ -192,12 +157,10 @@
  * of the table is one of them. The limits of that: the table is kept in the context, and
  * the drive has to keep the context, over a loss of power too. Save it, whole, after
  * sci_make_table and after each accepted RHPK, before a response goes to the host. Loaded
- * again it has the key cache and the buffer's numbers of then: call sci_restart. Numbers
- * can be given again from a context that is an older copy, that was saved without its
- * table, that was made anew from zeros, or whose words another version laid out; but the
- * 38 words that version 12 saved, with 32 zeros behind them, are a context of this one.
- * Where one has to be made anew, make its table of handles above every number that was
- * ever given.
+ * again it has the key cache of then: call sci_restart. Numbers can be given again from a
+ * context that is an older copy, that was saved without its table, that was made anew from
+ * zeros, or whose words another version laid out. Where one has to be made anew, make its
+ * table of handles above every number that was ever given.
  *
  * Refusal numbers, each with the rest of its name behind SCI_REFUSAL_. A call checks
  * those that its own text names, in ascending order, and answers the first that
@@ -207,13 +170,11 @@
  * it was.
  *       SCI_REFUSAL_
  *    1  MAP              the map breaks a rule above
- *    2  LENGTHS          cells or marks are not as many as the map says, nor, for
- *                        sci_read, sci_restart and sci_check_buffer, the buffer's
- *                        cells; for the mailbox also the block is not
- *                        SCI_BLOCK_BYTES long, the response buffer is under
- *                        SCI_LEAST_RESPONSE bytes, or the context has no table, or
- *                        one whose count is not 1 to SCI_HANDLES; for
- *                        sci_make_table what its text says
+ *    2  LENGTHS          cells or marks are not as many as the map says; for the
+ *                        mailbox also the block is not SCI_BLOCK_BYTES long, the
+ *                        response buffer is under SCI_LEAST_RESPONSE bytes, or the
+ *                        context has no table, or one whose count is not 1 to
+ *                        SCI_HANDLES; for sci_make_table what its text says
  *    3  CODE             unknown code
  *    4  REQUEST_LENGTH   the request has not its exact length
  *    5  CHKSUM           wrong chksum
@@ -254,7 +215,7 @@ extern "C" {
 
 /* The version of this header and of the archive that goes with it: it grows by one
  * whenever something changes for a caller. docs/CHANGES.md says what. */
-#define SCI_VERSION 13
+#define SCI_VERSION 12
 
 /* Of a function whose answer has to be looked at: a warning where it is not, if the
  * compiler has one. An erasure that ended is not yet an erased partition. */
@@ -269,7 +230,7 @@ extern "C" {
 /* The most handles that the table has. */
 #define SCI_HANDLES 3
 /* Words of a sci_context. */
-#define SCI_CONTEXT_WORDS 70
+#define SCI_CONTEXT_WORDS 38
 /* Bytes of the engine block: MEK at 00h, METD at 40h, AUX at 60h. */
 #define SCI_BLOCK_BYTES 128
 /* The shortest response buffer that any command accepts: the longest response, EHDL's. */
@@ -289,7 +250,6 @@ extern "C" {
 #define SCI_FLAG_SECRET 2
 #define SCI_FLAG_SLOT 4
 #define SCI_FLAG_OLDER_GUIDE 8
-#define SCI_FLAG_BUFFERED 16
 
 /* The refusal of any answer; 0 is none. The table above says what each means. */
 #define SCI_REFUSAL_MAP 1
@@ -352,12 +312,6 @@ extern "C" {
 /* The active slot's partition in FSTA's response, where no slot is active. */
 #define SCI_NO_SLOT UINT32_C(0xFFFFFFFF)
 
-/* sci_consistency.kind. Why the check was refused is in sci_consistency.refusal. */
-#define SCI_BUFFER_SKIPPED 0
-#define SCI_BUFFER_AGREES 1
-#define SCI_BUFFER_DIFFERS 2
-#define SCI_BUFFER_CHECK_REFUSED 3
-
 /* sci_reply.order */
 #define SCI_ORDER_NONE 0
 #define SCI_ORDER_CLEAR 1
@@ -395,8 +349,7 @@ typedef struct {
     uint32_t first;      /* the partition's first cell, in the whole array */
     uint32_t length;     /* n, its number of cells */
     uint32_t kind;       /* SCI_KIND_HARDWARE, _SOFTWARE or _LIFE_CYCLE */
-    uint32_t flags;      /* the sum of SCI_FLAG_ZEROIZABLE, _SECRET, _SLOT, _OLDER_GUIDE,
-                            _BUFFERED */
+    uint32_t flags;      /* the sum of SCI_FLAG_ZEROIZABLE, _SECRET, _SLOT, _OLDER_GUIDE */
 } sci_fields;
 
 /* What sci_write_map answers beside the image. */
@@ -429,20 +382,6 @@ typedef struct {
     uint32_t kind; /* SCI_PLACE_EMPTY, _WAITING, _HELD or _UNSURE */
     uint64_t tag;  /* the place's tag, 0 where it is empty */
 } sci_place;
-
-/* What sci_buffer_numbers answers. */
-typedef struct {
-    uint64_t ones;    /* the partition's ones in the buffer, as of the last restart */
-    uint32_t skipped; /* 1 where its check is skipped, else 0 */
-} sci_numbers;
-
-/* What sci_check_buffer answers. */
-typedef struct {
-    uint32_t kind;    /* SCI_BUFFER_SKIPPED, _AGREES, _DIFFERS or _CHECK_REFUSED */
-    uint32_t refusal; /* the refusal's number, 0 unless refused */
-    uint32_t cell;    /* differs: the first cell, numbered in the whole array, of the
-                         first pair that differs, which is the lowest; else 0 */
-} sci_consistency;
 
 /* What a direct command answers. */
 typedef struct {
@@ -565,24 +504,20 @@ SCI_ANSWER
 sci_place sci_cache_place(const sci_context *context, uint32_t place);
 
 /*
- * READ of the word that starts at this cell. Answers the word, in a buffered partition
- * as it stands in the buffer, in any other as it stands in the fuses; one of 32 bits has
- * zeros above them. Changes nothing.
- * Refused: 1; 2, also where the buffer has not as many cells as the map says, whatever
- * the partition; 7; 8 in a secret partition.
+ * READ of the word that starts at this cell. Answers the word; one of 32 bits
+ * has zeros above them. Changes nothing.
+ * Refused: 1, 2, 7; 8 in a secret partition.
  */
 SCI_ANSWER
 sci_answer sci_read(const uint8_t *image, size_t image_bytes,
                     uint32_t *cells, size_t cell_count,
                     const uint32_t *marks, size_t mark_count,
-                    const uint32_t *buffer, size_t buffer_count,
                     sci_context *context, uint32_t cell);
 
 /*
  * WRITE of a value to the data word that starts at this cell. Burns each fuse
  * of the value that is not stuck, and leaves all others. Answers the word as it
- * then stands in the fuses, with its new fuses, or done in a secret partition. READ of
- * a buffered partition answers the old word until the next restart.
+ * then stands, with its new fuses, or done in a secret partition.
  * Refused: 1, 2, 7; 8 for digest, indicator, life cycle, a marked partition, a
  * value over 32 bits for a 32-bit word; 9 where the value lacks a set fuse; 10.
  * While a place of the cache is not empty, 9 or 10 tells whether the value lacks a set
@@ -597,11 +532,9 @@ sci_answer sci_write(const uint8_t *image, size_t image_bytes,
 
 /*
  * ZEROIZE of the word that starts at this cell. Burns each of its fuses that
- * is not stuck, and leaves all others. Answers the word as it then stands in the fuses,
- * with its new fuses; in a secret partition the word alone, and only if its ones reach
- * the map's bound, otherwise withheld. Where a word is answered, the partition's check
- * is skipped until the next restart, by a flag in the context; nothing else of the
- * context changes, and nothing where it is withheld or refused.
+ * is not stuck, and leaves all others. Answers the word as it then stands, with its new
+ * fuses; in a secret partition the word alone, and only if its ones reach the map's
+ * bound, otherwise withheld.
  * In a partition on the older guide (SCI_FLAG_OLDER_GUIDE) all ones at the word's
  * width, 0xFFFFFFFF or 0xFFFFFFFFFFFFFFFF, are answered in the word's place; what burns,
  * the new fuses, what is withheld (by the ones of the word as it stands) and what is
@@ -631,8 +564,7 @@ sci_answer sci_zeroize(const uint8_t *image, size_t image_bytes,
  * place of the cache is empty both times, the image and the marks are the same, and
  * since then no other call or writer has changed the cells: only this one,
  * sci_erase_cut and FERS, each of this partition. An awaited reply of the engine
- * does not stop it. Where it has ended, the partition's check is skipped until the next
- * restart, by a flag in the context; nothing else of the context changes.
+ * does not stop it. The context stays as it was.
  * Refused: 1, 2; 7 if there is no such partition; 8 if it is not zeroizable;
  * 10; 15.
  */
@@ -647,14 +579,13 @@ sci_erasure sci_erase(const uint8_t *image, size_t image_bytes,
  * the burns before it are whole, burn k has the mask in place of all ones (its
  * low half for the first cell of a pair; its low 32 bits for a 32-bit word), and
  * nothing follows. Then every place of the cache is empty, and a reply that was
- * awaited is so no longer; the rest of the context stays, the table and what stands
- * beside the buffer: after a power failure the drive restarts, and sci_restart fills the
- * buffer. Answers SCI_CUT, k + 1 burns, and the new fuses, of burn k those that it set
- * itself. In a secret partition too, so that a mask of one fuse tells whether that fuse
- * was unset: it is for trying out what a drive does after a power failure, and not for a
- * host.
+ * awaited is so no longer; the table stays. Answers SCI_CUT, k + 1 burns, and the new
+ * fuses, of burn k those that it set itself. In a secret partition too, so that a mask of
+ * one fuse tells whether that fuse was unset: it is for trying out what a drive does
+ * after a power failure, and not for a host.
  * If the erasure would end before burn k, at the end of its order or with 15,
- * it is sci_erase: the answer, the cells and the context are the same.
+ * it is sci_erase: the answer and the cells are the same, and the context stays
+ * as it was.
  * A cut at k = 0 is never refused with 15.
  * Refused: as sci_erase; the context stays as it was.
  */
@@ -665,56 +596,13 @@ sci_erasure sci_erase_cut(const uint8_t *image, size_t image_bytes,
                           sci_context *context, uint32_t partition, uint32_t k, uint64_t mask);
 
 /*
- * Call it when the drive has restarted, and the engine with it; and before its first
- * READ or check. Empties every place of the cache, drops an awaited reply of the engine,
- * and fills the buffer from the fuses, all of it. Beside it the ones of each partition
- * are then those of its cells, and its check is skipped exactly if it is counted as
- * zeroized; for the partitions that the map does not have both are 0. Nothing else
- * changes: the table stays.
+ * Call it when the drive has restarted, and the engine with it. Empties every
+ * place of the cache, drops an awaited reply of the engine, and changes nothing
+ * else: the table stays. It cannot be refused.
  * No order is given to the engine, which would keep its keys if it had not
  * restarted: to free a slot in operation use KUNL or CLKC, and have it answered done.
- * Answers 0 where it was carried out, else the refusal's number.
- * Refused: 1; 2, also where the buffer has not as many cells as the map says.
- * Warning: a restart that was refused has changed nothing, the key cache neither: its
- * places, and an awaited reply, are as before. Look at the answer, and call it again with
- * the right map and lengths before anything else.
  */
-SCI_ANSWER
-uint32_t sci_restart(const uint8_t *image, size_t image_bytes,
-                     const uint32_t *cells, size_t cell_count,
-                     const uint32_t *marks, size_t mark_count,
-                     uint32_t *buffer, size_t buffer_count,
-                     sci_context *context);
-
-/*
- * The consistency check of the partition of this number, which is buffered: whether its
- * cells in the buffer are those of the fuses. Answers SCI_BUFFER_SKIPPED where the check
- * is skipped, as said above, whatever the cells hold; else _AGREES, or _DIFFERS with the
- * first pair in which they are not the same. Of a secret partition it tells that too, but
- * no fuse: only whether, and at which pair, buffer and fuses differ first. Changes
- * nothing. The answer does not depend on the marks, but marks of another count are
- * refused too.
- * Refused: 1; 2, also where the buffer has not as many cells as the map says; 7 if there
- * is no such partition; 8 if it is not buffered.
- */
-SCI_ANSWER
-sci_consistency sci_check_buffer(const uint8_t *image, size_t image_bytes,
-                                 const uint32_t *cells, size_t cell_count,
-                                 const uint32_t *marks, size_t mark_count,
-                                 const uint32_t *buffer, size_t buffer_count,
-                                 const sci_context *context, uint32_t partition);
-
-/*
- * What stands beside the buffer for the partition of this number, 0 to SCI_PARTITIONS -
- * 1, buffered or not: the ones of its cells in the buffer, as of the last restart that was
- * not refused, and whether its check is skipped. Both are 0 for a partition that the map
- * of that restart does not have, for any number past the last, and before the first
- * restart; an erasure or a ZEROIZE before it can have set the flag. Of a secret partition
- * too the ones are told: they are for the drive, and not for a host. Changes nothing. It
- * cannot be refused.
- */
-SCI_ANSWER
-sci_numbers sci_buffer_numbers(const sci_context *context, uint32_t partition);
+void sci_restart(sci_context *context);
 
 /*
  * The engine's reply to the order that sci_mailbox answered last: SCI_ENGINE_DONE,
@@ -788,9 +676,8 @@ uint32_t sci_make_table(sci_context *context,
  * FERS is sci_erase of the partition that it names: it is erased exactly if the
  * response's short pairs are 0 or its first short cell is the indicator's;
  * otherwise it is torn, and its seed may still be there. The new fuses are told to the
- * host, of a secret partition too. The block is unchanged, of the context, as by
- * sci_erase, all but the flag by which the partition's check is skipped, and there is no
- * order for the engine.
+ * host, of a secret partition too. The block and the context are unchanged, and there is
+ * no order for the engine.
  * FSTA changes nothing but the response; there is no order for the engine.
  * EHDL tells the handles of the table, in its order, with their algorithms. It changes
  * nothing but the response; there is no order for the engine.

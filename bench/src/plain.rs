@@ -1,12 +1,11 @@
 //! The key block once more, as an engineer writes it in safe Rust from the
 //! documents for firmware in which speed does not matter: no allocation, and a test
 //! that fails ends the call. It shares no code with the model but the names of states,
-//! reasons, orders, places, replies, handles and checks, and none with the library; it is what the
+//! reasons, orders, places, replies and handles, and none with the library; it is what the
 //! library's times are divided by.
 //!
 //! The calls are not inlined, since those of the library cannot be.
 
-mod buffer;
 mod cache;
 mod erasure;
 mod fuses;
@@ -15,7 +14,6 @@ mod mailbox;
 mod map;
 mod text;
 
-pub use buffer::{check, restart, Fuses};
 pub use cache::engine_reply;
 pub use erasure::{erase, Erased};
 pub use fuses::{states, why};

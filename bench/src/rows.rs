@@ -4,8 +4,8 @@ use checks::largest::{self, every_state, last_slot_active, last_slot_torn, TAIL}
 use checks::maps::MOST_CELLS as CELLS;
 use checks::{lent, small, texts};
 use model::{
-    Call, Drive, EngineReply, Erase, KeyBlock, Lent, Mail, Model, Request, Table, Values, BUFFERED,
-    HARDWARE, SLOT_FLAGS, SOFTWARE, ZEROIZABLE,
+    Call, Drive, EngineReply, Erase, KeyBlock, Lent, Mail, Model, Request, Table, Values, HARDWARE,
+    SLOT_FLAGS, SOFTWARE, ZEROIZABLE,
 };
 use sciambrunola::LONGEST_IMAGE;
 
@@ -49,9 +49,6 @@ pub fn all() -> Vec<Row> {
     rows.extend(Mail::ALL.map(|command| mailbox(command, "small drive", Drive::small())));
     rows.extend(Mail::ALL.map(|command| mailbox(command, "largest map", last_slot_active())));
     rows.push(engine_reply());
-    rows.push(row("restart, 16 partitions, 2,048 cells", every_state(), Call::Restart));
-    let buffered = one_partition(HARDWARE, ZEROIZABLE | BUFFERED);
-    rows.push(row("check, largest partition, agrees", buffered, Call::Check(0)));
     rows.push(row("why, largest map", last_slot_torn(), Call::Why));
     rows.push(write_map("small drive", small::MAP_TEXT.into()));
     rows.push(write_map("largest map", texts::spelled(&largest::slots())));

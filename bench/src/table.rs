@@ -17,14 +17,11 @@ of the best times, `median` is the median of library / plain over all runs. Ever
 release and called through the same code, the library through its safe Rust functions. `plain` is \
 safe Rust as one writes it without care for speed, with no allocation and early exits (`bench/src/plain`); \
 `model` is the tests' oracle, written to be read. Before it is timed, each call is made on all three, \
-and answers, cells, buffer with its numbers, cache, table of handles, block, response, states and \
-written map are equal. \
+and answers, cells, cache, table of handles, block, response, states and written map are equal. \
 Each call is repeated on what it left. CLKC, KLOD and KUNL find 8 keys held and no reply awaited, \
 `engine reply` finds those 8 places waiting under a clear, to which the engine is done, and RHPK \
 rotates the last of three handles; the time to put that back is part of theirs on every side. \
-EHDL lists three handles. `restart` fills the buffer with 16 slots, four in each state, and counts \
-their ones; `check` compares the one partition of 2,048 cells with the buffer, and finds all pairs the \
-same. \
+EHDL lists three handles. \
 In the largest map (16 slots, 2,048 cells, 256 bytes) the active slot is the last; `why` finds it torn, \
 with the digest alone short. `map check` is the call `sci_partition` of that map's last partition, \
 for which the whole map is judged. `none short` is an erasure after which no pair is short; \

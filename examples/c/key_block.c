@@ -1,7 +1,6 @@
 /*
  * The key block from C, on the small drive of document 01: its map and its states are
- * read; it restarts, as every drive begins, its table of handles is made, and a handle
- * rotated; a key is loaded, and an
+ * read; its table of handles is made, and a handle rotated; a key is loaded, and an
  * erasure refused while it is held; the engine does not answer to the load of another
  * key, and a clear recovers; an erasure is cut by a power failure, the drive restarts,
  * the next erasure ends it, and the drive is asked why it offers no key. Each step prints
@@ -18,6 +17,8 @@
  */
 #include "drive.h"
 
+#include <inttypes.h>
+#include <stdio.h>
 #include <stdlib.h>
 #include <string.h>
 
@@ -36,14 +37,19 @@ const uint8_t map[MAP_BYTES] = {
 };
 
 /* The library has no memory of its own. The fuses, one of them set, their stuck marks,
- * the buffer, which a restart fills from the fuses (no partition here is buffered: see
- * buffered.c), and the context, in which it keeps the key cache, here empty, whether the
- * engine's reply is awaited, the table of handles, which is still to be made, and what
- * stands beside the buffer, are ours, and lent to it for each call. */
+ * and the context, in which it keeps the key cache, here empty, whether the engine's reply
+ * is awaited, and the table of handles, which is still to be made, are ours, and lent to
+ * it for each call. */
 uint32_t cells[CELLS] = {1};
 uint32_t marks[CELLS];
-uint32_t buffer[CELLS];
 sci_context context = {0};
+
+/* A step that was not answered as it should have been; most likely it was refused. */
+bool failed(const char *step, uint32_t refusal)
+{
+    fprintf(stderr, "%s: refusal %" PRIu32 "\n", step, refusal);
+    return false;
+}
 
 static bool read_partition(uint32_t i)
 {
@@ -172,12 +178,14 @@ static bool erase_slot_cut(void)
     return true;
 }
 
-/* The drive begins, or is back, and the engine with it: no key is held, and no reply is
- * awaited; the table of handles is what it was. A drive that goes on unloads its keys by
- * KUNL or CLKC, which have an order for the engine. */
-static bool come_back(void)
+/* The drive is back, and the engine with it: no key is held, and no reply is awaited; the
+ * table of handles is what it was. A drive that goes on unloads its keys by KUNL or CLKC,
+ * which have an order for the engine. */
+static bool restart(void)
 {
-    return restart() && (list_places() == 0 || failed("restart", 0));
+    sci_restart(&context);
+    printf("restart\n");
+    return (list_places() == 0 || failed("restart", 0)) && list_handles();
 }
 
 /* An erasure of the slot that ended has erased it exactly if no pair is short or the
@@ -230,7 +238,7 @@ int main(int argc, char **argv)
     uint8_t mek[MEK_BYTES];
     bool done;
     memset(mek, 0x4B, sizeof mek); /* stands for a key */
-    done = take_marks(argc, argv) && read_map() && list_states() && come_back()
+    done = take_marks(argc, argv) && read_map() && list_states()
            /* a table of handles is made; one handle is rotated */
            && make_table() && list_handles() && rotate_handle(1) && list_handles()
            && ask_for_status(true)
@@ -242,7 +250,7 @@ int main(int argc, char **argv)
            /* a clear that is done recovers */
            && clear_keys(0) && engine_replies(SCI_ENGINE_DONE)
            /* the slot is erased */
-           && erase_slot_cut() && come_back() && list_handles() && list_states()
-           && erase_slot() && ask_for_status(false);
+           && erase_slot_cut() && restart() && list_states() && erase_slot()
+           && ask_for_status(false);
     return done ? EXIT_SUCCESS : EXIT_FAILURE;
 }

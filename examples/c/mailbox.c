@@ -9,6 +9,8 @@
  */
 #include "drive.h"
 
+#include <inttypes.h>
+#include <stdio.h>
 #include <string.h>
 
 #define TIMEOUT 1000 /* the engine's, in the unit that host and drive have agreed on */

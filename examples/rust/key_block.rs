@@ -1,11 +1,10 @@
 //! The key block from Rust, on the small drive of document 01: its map and its states
-//! are read; it restarts, as every drive begins, its table of handles is made, and a handle
-//! rotated; a key is loaded, and an erasure refused while it is held; the engine does not
-//! answer to the load of another key, and a clear recovers; an erasure is cut by a power
-//! failure, the drive restarts, the next erasure ends it, and the drive is asked why it
-//! offers no key. Each step prints a line or two; one that fails ends the program with a
-//! failing status. `story`, at the end, tells it; the mailbox and the engine are in
-//! `mailbox.rs`.
+//! are read; its table of handles is made, and a handle rotated; a key is loaded, and an
+//! erasure refused while it is held; the engine does not answer to the load of another
+//! key, and a clear recovers; an erasure is cut by a power failure, the drive restarts,
+//! the next erasure ends it, and the drive is asked why it offers no key. Each step prints
+//! a line or two; one that fails ends the program with a failing status. `story`, at the
+//! end, tells it; the mailbox and the engine are in `mailbox.rs`.
 //!
 //! From the root of the repository, once the archive is built:
 //!   cargo run --offline --release --manifest-path rust/Cargo.toml --bin key_block
@@ -15,13 +14,12 @@
 #![forbid(unsafe_code)]
 
 mod mailbox;
-mod steps;
 
 use sciambrunola::{erase, erase_cut, make_table, partition, restart, states, why};
 use sciambrunola::{flag, kind, refusal, BLOCK_BYTES, LEAST_RESPONSE};
 use sciambrunola::{Context, EngineReply, Erasure, Fields, Reason, States};
+use std::fmt::Debug;
 use std::process::ExitCode;
-use steps::{ended, failed, Step};
 
 /// The partition that holds the secret seed.
 const SLOT: u32 = 0;
@@ -46,15 +44,20 @@ struct Drive {
     cells: [u32; 12],
     /// Their stuck marks.
     marks: [u32; 12],
-    /// Filled from the fuses by a restart. No partition here is buffered: see `buffered.rs`.
-    buffer: [u32; 12],
     /// What the library keeps between calls: the key cache, here empty, whether the
-    /// engine's reply is awaited, the table of handles, which is still to be made, and what
-    /// stands beside the buffer.
+    /// engine's reply is awaited, and the table of handles, which is still to be made.
     context: Context,
     /// The buffers of the mailbox.
     response: [u8; LEAST_RESPONSE],
     block: [u8; BLOCK_BYTES],
+}
+
+/// What a step comes to; the text says which one failed.
+type Step = Result<(), String>;
+
+/// A step that was answered otherwise than it should have been, most likely refused.
+fn failed(step: &str, answer: impl Debug) -> Step {
+    Err(format!("{step}: {answer:?}"))
 }
 
 fn read_map() -> Step {
@@ -173,18 +176,14 @@ impl Drive {
         }
     }
 
-    /// The drive begins, or is back, and the engine with it: no key is held, and no reply is
-    /// awaited; the table of handles is what it was. One that is refused, by a bad map or a
-    /// wrong length, has changed nothing of that. A drive that goes on unloads its keys by
-    /// KUNL or CLKC, which have an order for the engine.
+    /// The drive is back, and the engine with it: no key is held, and no reply is awaited;
+    /// the table of handles is what it was. A drive that goes on unloads its keys by KUNL
+    /// or CLKC, which have an order for the engine.
     fn restart(&mut self) -> Step {
-        let Drive { cells, marks, buffer, context, .. } = self;
-        if let Err(number) = restart(&MAP, cells, marks, buffer, context) {
-            return failed("restart", number);
-        }
+        restart(&mut self.context);
         println!("restart");
         match self.list_places() {
-            0 => Ok(()),
+            0 => self.list_handles(),
             places => failed("restart, places that are not empty", places),
         }
     }
@@ -218,19 +217,23 @@ fn marks() -> Result<[u32; 2], String> {
 }
 
 fn main() -> ExitCode {
-    ended(story())
+    match story() {
+        Ok(()) => ExitCode::SUCCESS,
+        Err(text) => {
+            eprintln!("{text}");
+            ExitCode::FAILURE
+        }
+    }
 }
 
 fn story() -> Step {
     let (mut cells, mut stuck) = ([0; 12], [0; 12]);
     cells[0] = 1;
     [stuck[1], stuck[5]] = marks()?;
-    let (response, block, buffer) = ([0; LEAST_RESPONSE], [0; BLOCK_BYTES], [0; 12]);
-    let context = Context::new();
-    let mut drive = Drive { cells, marks: stuck, buffer, context, response, block };
+    let (response, block) = ([0; LEAST_RESPONSE], [0; BLOCK_BYTES]);
+    let mut drive = Drive { cells, marks: stuck, context: Context::new(), response, block };
     read_map()?;
     drive.list_states()?;
-    drive.restart()?;
     // A table of handles is made; one handle is rotated.
     drive.make_table()?;
     drive.list_handles()?;
@@ -254,7 +257,6 @@ fn story() -> Step {
     // The slot is erased.
     drive.erase_slot_cut()?;
     drive.restart()?;
-    drive.list_handles()?;
     drive.list_states()?;
     drive.erase_slot()?;
     drive.ask_for_status(false)

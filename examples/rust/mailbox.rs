@@ -21,7 +21,7 @@ impl Drive {
         let summed = code.to_le_bytes().into_iter().chain(request[4..].iter().copied());
         let sum = summed.fold(0_u32, |sum, byte| sum.wrapping_add(byte.into()));
         put_field(request, 0, sum.wrapping_neg());
-        let Drive { cells, marks, context, response, block, .. } = self;
+        let Drive { cells, marks, context, response, block } = self;
         mailbox(&MAP, cells, marks, context, code, request, response, block)
     }
 

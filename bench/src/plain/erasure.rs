@@ -1,6 +1,5 @@
-//! Document 01, "Erasing a partition", without cuts; document 02, P4, P8 and P9.
+//! Document 01, "Erasing a partition", without cuts; document 02, P4 and P8.
 
-use super::buffer::Beside;
 use super::cache::any_held;
 use super::fuses::{burn, is_short, marks_partition};
 use super::map::{Entry, Map};
@@ -21,17 +20,10 @@ pub struct Erased {
 
 /// Erases a partition: refusals 1, 2, 7, 8, 10 and 15.
 #[inline(never)]
-pub fn erase(
-    drive: &mut Drive,
-    cache: &Cache,
-    beside: &mut Beside,
-    partition: u32,
-) -> Result<Erased, Refusal> {
+pub fn erase(drive: &mut Drive, cache: &Cache, partition: u32) -> Result<Erased, Refusal> {
     let map = drive.map()?;
     let entry = judge(&map, cache, partition)?;
-    let erased = run(&map, drive, entry)?;
-    beside[partition as usize].skipped = true;
-    Ok(erased)
+    run(&map, drive, entry)
 }
 
 /// The partition, if it may be erased: refusals 7, 8 and 10.

@@ -1,6 +1,5 @@
-//! Document 01, "Mailbox", with the engine block; document 02, P5, P6, P8 and P9.
+//! Document 01, "Mailbox", with the engine block; document 02, P5, P6 and P8.
 
-use super::buffer::Beside;
 use super::fuses::active_slot;
 use super::map::Map;
 use super::{cache, erasure, handles, Drive, Refusal};
@@ -12,8 +11,6 @@ pub struct Kept<'a> {
     pub keys: &'a mut Cache,
     /// The table of handles.
     pub table: &'a mut Table,
-    /// What stands beside the buffer.
-    pub beside: &'a mut Beside,
 }
 
 /// What the mailbox is lent besides.
@@ -80,18 +77,16 @@ fn carry_out(
 fn tell(
     map: &Map,
     drive: &mut Drive,
-    Kept { keys, table, beside }: Kept,
+    Kept { keys, table }: Kept,
     code: u32,
     request: &[u8],
     response: &mut [u8],
 ) -> Result<usize, Refusal> {
     Ok(match &code.to_be_bytes() {
         b"FERS" => {
-            let partition = u32_at(request, 8);
-            let entry = erasure::judge(map, keys, partition)?;
+            let entry = erasure::judge(map, keys, u32_at(request, 8))?;
             cache::judge_idle(keys)?;
             let erased = erasure::run(map, drive, entry)?;
-            beside[partition as usize].skipped = true;
             let first_short = erased.first_short.unwrap_or(NONE);
             respond(response, &[erased.short_pairs, first_short, erased.new_fuses])
         }

@@ -24,7 +24,7 @@ pub struct Entry {
     pub length: u16,
     /// 0 hardware, 1 software, 2 life cycle.
     pub kind: u8,
-    /// 1 zeroizable, 2 secret, 4 HEK slot, 8 older guide, 16 buffered.
+    /// 1 zeroizable, 2 secret, 4 HEK slot, 8 older guide.
     pub flags: u8,
 }
 
@@ -96,7 +96,7 @@ impl Entry {
     fn is_good(&self, end: usize, cells: u16) -> bool {
         let Range { start, end: own_end } = self.range();
         self.kind <= 2
-            && self.flags <= 31
+            && self.flags <= 15
             && self.first % 2 == 0
             && self.length % 2 == 0
             && self.length >= if self.is_zeroizable() { 6 } else { 4 }
@@ -135,11 +135,6 @@ impl Entry {
 
     fn is_on_older_guide(&self) -> bool {
         self.flags & 8 != 0
-    }
-
-    /// Flag 16.
-    pub fn is_buffered(&self) -> bool {
-        self.flags & 16 != 0
     }
 }
 

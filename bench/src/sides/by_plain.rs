@@ -1,16 +1,16 @@
 //! The plain Rust as a key block.
 
-use crate::plain::{self, Buffers, Drive, Entry, Erased, Fuses, Header, Kept};
+use crate::plain::{self, Buffers, Drive, Entry, Erased, Header, Kept};
 use model::{Call, Erase, Erasure, KeyBlock, Lent, Model, Reply, Said, State, PARTITIONS};
 
-/// The plain Rust. It has no direct commands, no cuts, no making of a table and no call for a place
-/// or for the numbers beside the buffer: those are the model's own.
+/// The plain Rust. It has no direct commands, no cuts, no restart, no making of a table and no
+/// call for a place: those are the model's own.
 pub struct Plain;
 
 impl KeyBlock for Plain {
     #[inline]
     fn answer(&mut self, lent: &mut Lent, call: &Call) -> Said {
-        let Lent { drive, cache, table, buffer, numbers, response, block, output, .. } = lent;
+        let Lent { drive, cache, table, response, block, output, .. } = lent;
         let mut drive = Drive { image: &drive.image, cells: &mut drive.cells, marks: &drive.marks };
         match call {
             Call::Partition(number) => Said::Fields(fields(drive.image, *number)),
@@ -21,7 +21,7 @@ impl KeyBlock for Plain {
                 Err(number) => [number, 0],
             }),
             Call::Erase(Erase { partition, cut: None }) => {
-                Said::Erasure(match plain::erase(&mut drive, cache, numbers, *partition) {
+                Said::Erasure(match plain::erase(&mut drive, cache, *partition) {
                     Ok(Erased { short_pairs, first_short, burns, new_fuses }) => {
                         Erasure::Erased { short_pairs, first_short, burns, new_fuses }
                     }
@@ -30,7 +30,7 @@ impl KeyBlock for Plain {
             }
             Call::Mailbox(request) => {
                 let buffers = Buffers { request: &request.bytes, response, block };
-                let kept = Kept { keys: cache, table, beside: numbers };
+                let kept = Kept { keys: cache, table };
                 let told = plain::mailbox(&mut drive, kept, request.code, buffers);
                 Said::Reply(match told {
                     Ok((length, order)) => Reply::Accepted { length, order },
@@ -38,17 +38,9 @@ impl KeyBlock for Plain {
                 })
             }
             Call::EngineReply(reply) => Said::Taken(plain::engine_reply(cache, *reply)),
-            Call::Restart => Said::Restarted(plain::restart(fuses(drive), buffer, numbers, cache)),
-            Call::Check(number) => {
-                Said::Checked(plain::check(fuses(drive), buffer, numbers, *number))
-            }
             _ => Model.answer(lent, call),
         }
     }
-}
-
-fn fuses(Drive { image, cells, marks }: Drive) -> Fuses {
-    Fuses { image, cells, marks }
 }
 
 fn fields(image: &[u8], number: u32) -> [u32; 8] {

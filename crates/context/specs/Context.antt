@@ -1,8 +1,7 @@
 -- What the block keeps between calls, in one array of words: where each part of it lies. Assumes nothing.
 use Rattle.std.specs.Prelude.{ℕ, List, take, drop}
 
--- the places' kinds, then their tags, then the awaited reply; the table's count, its entries, the greatest number given; the ones of each
--- partition, then the skip flags
+-- the places' kinds, then their tags, then the awaited reply; the table's count, its entries, the greatest number given
 abbrev pub kinds_at : ℕ
 kinds_at = 0
 
@@ -20,12 +19,6 @@ entries_at = 34
 
 abbrev pub greatest_at : ℕ
 greatest_at = 37
-
-abbrev pub buffer_ones_at : ℕ
-buffer_ones_at = 38
-
-abbrev pub skips_at : ℕ
-skips_at = 54
 
 -- a part of the context: n words, from a first one on
 abbrev pub part : (first n : ℕ) (context : List ℕ) → List ℕ

@@ -37,6 +37,10 @@ refusing refuse lent number = outcome (refuse number) lent
 abbrev pub telling : {A B L : Type 0} → (A → B) → Outcome A L → Outcome B L
 telling words o = outcome (words o.told) o.after
 
--- what was done with the context alone, as what was done with the state
+-- what was done with the cells alone, as what was done with the state
+abbrev pub on_cells : {A : Type 0} → State → Outcome A (List ℕ) → Outcome A State
+on_cells s o = outcome o.told (with_cells o.after s)
+
+-- and what was done with the context alone
 abbrev pub on_context : {A : Type 0} → State → Outcome A (List ℕ) → Outcome A State
 on_context s o = outcome o.told (with_context o.after s)

@@ -1,13 +1,12 @@
 // The context: all that the key block keeps between calls, in one lent array of words. All zeros are
 // the context of a drive before its first call; `handles` makes its table. Here is where each part lies; a
-// part's own crate reads and writes it (`cache`: the places and the awaited reply; `handles`: the table;
-// `buffer`: the numbers beside the buffer).
+// part's own crate reads and writes it (`cache`: the places and the awaited reply; `handles`: the table).
 // The definitions are in `specs/Context`, the one law of stores in `specs/Laws`; `specs/State` has what
 // calls change and what a call answers and leaves. It rests on nothing.
 
 // The words of the context, and where each part begins. A new part goes behind the last, and the
 // length of the whole grows by its own.
-pub const WORDS: usize = 70;
+pub const WORDS: usize = 38;
 
 // What each place of the key cache is: 16 words.
 pub const KINDS: usize = 0;
@@ -26,12 +25,6 @@ pub const ENTRIES: usize = 34;
 
 // The greatest number ever given to a handle: one word.
 pub const GREATEST: usize = 37;
-
-// The ones of each partition's cells in the buffer: 16 words.
-pub const BUFFER_ONES: usize = 38;
-
-// Whether each partition's consistency check is skipped: 16 words.
-pub const SKIPS: usize = 54;
 
 // What a caller lends to every call that needs it.
 pub type Context = [u64; WORDS];

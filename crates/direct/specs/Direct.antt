@@ -1,10 +1,10 @@
--- Document 01, "Direct commands", with requests P7, P8 and P9: what a command on a word answers, and what it leaves. Assumes nothing.
+-- Document 01, "Direct commands", with requests P7 and P8: what a command on a word answers, and the cells that it leaves. Assumes nothing.
 use Rattle.std.specs.Prelude.{ℕ, ◌+◌, ◌^◌, Bool, true, false, cond, not, ◌&&◌, ◌||◌, List, [], ◌∷◌, ◌++◌, eqb, leb, get_or}
 use Rattle.std.specs.Int.Bits.{bit_or}
 use Rattle.laws.specs.Refusals.{first_of}
-use Rattle.context.specs.State.{State, with_cells, with_context, Outcome, outcome, refusing}
+use Rattle.context.specs.State.{State, with_cells, Outcome, outcome, refusing}
 use Rattle.map.specs.declared.Entry.{Entry}
-use Rattle.map.specs.Map.{header_of, entry_of, life_cycle, zeroizable, secret, older_guide, buffered}
+use Rattle.map.specs.Map.{header_of, entry_of, life_cycle, zeroizable, secret, older_guide}
 use Rattle.fuse.specs.Fuse.{all_set, held_at, short, all_ones, burn_word, new_fuses}
 use Rattle.word.specs.declared.Role.{Role}
 use Rattle.word.specs.declared.Role.TheVariants.{Data, Digest, Indicator}
@@ -13,8 +13,7 @@ use Rattle.word.specs.declared.Lookup.TheVariants.{Word, Nothing}
 use Rattle.word.specs.Word.{word_at}
 use Rattle.drive.specs.declared.Check.{Check}
 use Rattle.drive.specs.declared.Check.TheVariants.{Ready, Refused as NotReady}
-use Rattle.buffer.specs.Buffer.{skipping}
-use Rattle.drive.specs.Drive.{drive_tests, buffer_tests, check_of, buffer_check_of, marked_at, slot_in_use}
+use Rattle.drive.specs.Drive.{drive_tests, check_of, marked_at, slot_in_use}
 use Rattle.direct.specs.declared.Command.{Command}
 use Rattle.direct.specs.declared.Command.TheVariants.{Read, Write, Zeroize}
 use Rattle.direct.specs.declared.Found.{Found}
@@ -70,15 +69,9 @@ word_tests (Word i role wide) command image s =
     ∷ (changes_slot command image i s.context, 10)
     ∷ []
 
--- 1 and 2: READ alone is lent the buffer, and by request P9 2 also for one that is not C long
-abbrev pub lent_tests : Command → (image cells marks buffer : List ℕ) → List (Bool × ℕ)
-lent_tests (Read cell) image cells marks buffer = buffer_tests image cells marks buffer
-lent_tests (Write cell value) image cells marks buffer = drive_tests image cells marks
-lent_tests (Zeroize cell) image cells marks buffer = drive_tests image cells marks
-
--- all refusals of a command, by what its cell starts: 1 and 2 for what is lent, 7 to 10 for the word
-abbrev pub direct_tests : Lookup → Command → (image marks buffer : List ℕ) → State → List (Bool × ℕ)
-direct_tests found command image marks buffer s = lent_tests command image s.cells marks buffer ++ word_tests found command image s
+-- all refusals of a command, by what its cell starts: 1 and 2 for the drive, 7 to 10 for the word
+abbrev pub direct_tests : Lookup → Command → (image marks : List ℕ) → State → List (Bool × ℕ)
+direct_tests found command image marks s = drive_tests image s.cells marks ++ word_tests found command image s
 
 -- ---- what a command that is not refused leaves
 
@@ -113,47 +106,24 @@ answer_of (Write cell value) x wide bound word new = cond (secret x) Done (Burne
 answer_of (Zeroize cell) x wide bound word new =
     cond (secret x) (cond (short bound word) Withheld (Shown (told_word x wide word))) (Burned (told_word x wide word) new)
 
--- where the word is looked at: request P9, "READ of a buffered partition answers from" the buffer; else the fuses as they now stand
-abbrev pub looked_at : Command → Entry → (buffer cells : List ℕ) → List ℕ
-looked_at (Read cell) x buffer cells = cond (buffered x) buffer cells
-looked_at (Write cell value) x buffer cells = cells
-looked_at (Zeroize cell) x buffer cells = cells
-
--- an answer that is a word
-abbrev pub is_a_word : Answer → Bool
-is_a_word (Shown word) = true
-is_a_word (Burned word new) = true
-is_a_word Done = false
-is_a_word Withheld = false
-is_a_word (Refused number) = false
-
--- the context: request P9, the check of partition i is skipped "when any ZEROIZE .. of it since then has answered a word"
-abbrev pub context_after : Command → (i : ℕ) → Answer → (context : List ℕ) → List ℕ
-context_after (Read cell) i answer context = context
-context_after (Write cell value) i answer context = context
-context_after (Zeroize cell) i answer context = cond (is_a_word answer) (skipping i context) context
-
--- the answer is by the word that is looked at, and the context by the answer
-abbrev pub shown_of : Command → (image buffer : List ℕ) (i : ℕ) (wide : Bool) (new : ℕ) → State → Outcome Answer State
-shown_of command image buffer i wide new s =
-    let x : Entry = entry_of image i in
-    let told : Answer = answer_of command x wide (header_of image).bound (word_of wide (cell_of command) (looked_at command x buffer s.cells)) new in
-    outcome told (with_context (context_after command i told s.context) s)
+-- the answer is by the word as it now stands
+abbrev pub shown_of : Command → (image : List ℕ) (i : ℕ) (wide : Bool) (new : ℕ) → State → Outcome Answer State
+shown_of command image i wide new s =
+    outcome (answer_of command (entry_of image i) wide (header_of image).bound (word_of wide (cell_of command) s.cells) new) s
 
 -- a cell that starts no word is refused before
-unfoldable pub carried_out : Lookup → Command → (image marks buffer : List ℕ) → State → Outcome Answer State
-carried_out Nothing command image marks buffer s = refusing Refused s 7
-carried_out (Word i role wide) command image marks buffer s =
-    shown_of command image buffer i wide (new_after command wide marks s.cells) (with_cells (cells_after command wide marks s.cells) s)
+unfoldable pub carried_out : Lookup → Command → (image marks : List ℕ) → State → Outcome Answer State
+carried_out Nothing command image marks s = refusing Refused s 7
+carried_out (Word i role wide) command image marks s =
+    shown_of command image i wide (new_after command wide marks s.cells) (with_cells (cells_after command wide marks s.cells) s)
 
 -- a command, by what its cell starts
-abbrev pub direct_by : Lookup → (image marks buffer : List ℕ) → Command → State → Outcome Answer State
-direct_by found image marks buffer command s =
-    first_of (refusing Refused s) (direct_tests found command image marks buffer s) (carried_out found command image marks buffer s)
+abbrev pub direct_by : Lookup → (image marks : List ℕ) → Command → State → Outcome Answer State
+direct_by found image marks command s = first_of (refusing Refused s) (direct_tests found command image marks s) (carried_out found command image marks s)
 
 -- a direct command
-unfoldable pub direct_of : (image marks buffer : List ℕ) → Command → State → Outcome Answer State
-direct_of image marks buffer command s = direct_by (word_at image (cell_of command)) image marks buffer command s
+unfoldable pub direct_of : (image marks : List ℕ) → Command → State → Outcome Answer State
+direct_of image marks command s = direct_by (word_at image (cell_of command)) image marks command s
 
 -- ---- below the entry points
 
@@ -163,11 +133,5 @@ found_by (NotReady number) f = Barred number
 found_by (Ready header) Nothing = Barred 7
 found_by (Ready header) (Word i role wide) = FoundWord i role wide
 
--- the check of what the command is lent
-abbrev pub check_for : Command → (image cells marks buffer : List ℕ) → Check
-check_for (Read cell) image cells marks buffer = buffer_check_of image cells marks buffer
-check_for (Write cell value) image cells marks buffer = check_of image cells marks
-check_for (Zeroize cell) image cells marks buffer = check_of image cells marks
-
-unfoldable pub found_of : Command → (image cells marks buffer : List ℕ) → Found
-found_of command image cells marks buffer = found_by (check_for command image cells marks buffer) (word_at image (cell_of command))
+unfoldable pub found_of : (image cells marks : List ℕ) (cell : ℕ) → Found
+found_of image cells marks cell = found_by (check_of image cells marks) (word_at image cell)

@@ -1,18 +1,16 @@
 // Direct commands: READ, WRITE and ZEROIZE of one word. A command is judged, the lowest refusal
-// first, and then burns at most its word, by the burn that every other burn of the key block uses. READ
-// of a buffered partition answers from the buffer; a ZEROIZE that answers a word has the partition's
-// consistency check skipped from then on.
+// first, and then burns at most its word, by the burn that every other burn of the key block uses.
 // `read`, `write` and `zeroize` carry out one each; `run` takes any, as document 01's enum, and no
 // crate here calls it. All four are entry points: they answer for any bytes and any lengths. So that
 // no secret word and no value that becomes one is left in a dead frame (the test `residue`), `write`
 // looks at both only after the last call that is not inlined, and on the way from C no value lies in
 // a command. The definitions are in `specs/Direct`, the laws in `specs/Laws`. It rests on `drive`,
-// `word`, `buffer`, `context`, `fuse` and what lies below them.
+// `word`, `context`, `fuse` and what lies below them.
 ghost use Rattle.std.specs.Prelude.{◌≡◌, ℕ, ◌+◌, ◌≤◌, List, length};
 ghost use Rattle.fuse.specs.Fuse.{cells_in};
 ghost use Rattle.word.specs.Word.{word_at};
 ghost use Rattle.context.specs.State.{state, outcome};
-ghost use Rattle.direct.specs.Direct.{word_of, is_data, ones_at, told_word, answer_of, is_a_word, found_by, direct_of};
+ghost use Rattle.direct.specs.Direct.{word_of, is_data, ones_at, told_word, answer_of, found_by, direct_of};
 
 use context::Context;
 use drive::Check;
@@ -146,51 +144,29 @@ fn zeroized(word: u64, wide: bool, x: Entry, bound: u64, new: u32) -> Answer
     Answer::Word(told)
 }
 
-// Whether an answer is a word.
-fn is_word(answer: Answer) -> bool
-    ensures { result ≡ is_a_word answer }
-{
-    match answer {
-        Answer::Word(_) => true,
-        Answer::Burned { word: _, new: _ } => true,
-        Answer::Done => false,
-        Answer::Withheld => false,
-        Answer::Refused(_) => false,
-    }
-}
-
-// READ of the word that starts at `cell`, which it answers, from the buffer where the partition is
-// buffered. It is lent no context: whatever one there is stays as it is.
-pub fn read(image: &[u8], cells: &[u32], marks: &[u32], buffer: &[u32], cell: u32) -> Answer
+// READ of the word that starts at `cell`, which it answers. It is lent no context: whatever one there
+// is stays as it is.
+pub fn read(image: &[u8], cells: &[u32], marks: &[u32], cell: u32) -> Answer
     ensures { (context : List ℕ) → outcome result (state cells.now context)
-        ≡ direct_of image.now marks.now buffer.now (Command.Read cell) (state cells.now context) }
+        ≡ direct_of image.now marks.now (Command.Read cell) (state cells.now context) }
 {
-    match find(
-        drive::check_buffer(image, cells, marks, buffer),
-        image,
-        cell,
-    ) {
+    match find(drive::check_drive(image, cells, marks), image, cell) {
         Found::Refused(number) => Answer::Refused(number),
         Found::Word {
             partition,
             role: _,
             wide,
         } => {
-            let x = map::read_entry(image, partition);
-            if map::is_secret(x) {
+            if map::is_secret(map::read_entry(image, partition)) {
                 return Answer::Refused(8);
-            }
-            if map::is_buffered(x) {
-                return Answer::Word(word_of(buffer, cell as usize, wide));
             }
             Answer::Word(word_of(cells, cell as usize, wide))
         }
     }
 }
 
-// WRITE of a value into the data word that starts at `cell`. It is lent no buffer. Whether 10 applies is
-// asked before 8 and 9 are, since it takes a call, over which the word and the value would be kept on
-// the stack.
+// WRITE of a value into the data word that starts at `cell`. Whether 10 applies is asked before 8 and
+// 9 are, since it takes a call, over which the word and the value would be kept on the stack.
 pub fn write(
     image: &[u8],
     cells: &mut [u32],
@@ -199,8 +175,8 @@ pub fn write(
     cell: u32,
     value: u64,
 ) -> Answer
-    ensures { (buffer : List ℕ) → outcome result (state cells.new context.now)
-        ≡ direct_of image.now marks.now buffer (Command.Write cell value) (state cells.old context.now) }
+    ensures { outcome result (state cells.new context.now)
+        ≡ direct_of image.now marks.now (Command.Write cell value) (state cells.old context.now) }
 {
     match find(drive::check_drive(image, cells, marks), image, cell) {
         Found::Refused(number) => Answer::Refused(number),
@@ -231,16 +207,16 @@ pub fn write(
     }
 }
 
-// ZEROIZE of the word that starts at `cell`: all ones are burned into it. It is lent no buffer.
+// ZEROIZE of the word that starts at `cell`: all ones are burned into it.
 pub fn zeroize(
     image: &[u8],
     cells: &mut [u32],
     marks: &[u32],
-    context: &mut Context,
+    context: &Context,
     cell: u32,
 ) -> Answer
-    ensures { (buffer : List ℕ) → outcome result (state cells.new context.new)
-        ≡ direct_of image.now marks.now buffer (Command.Zeroize cell) (state cells.old context.old) }
+    ensures { outcome result (state cells.new context.now)
+        ≡ direct_of image.now marks.now (Command.Zeroize cell) (state cells.old context.now) }
 {
     match find(drive::check_drive(image, cells, marks), image, cell) {
         Found::Refused(number) => Answer::Refused(number),
@@ -260,11 +236,7 @@ pub fn zeroize(
             }
             let new = fuse::burn_word(cells, marks, at, wide, fuse::ALL_ONES);
             let word = word_of(cells, at, wide);
-            let answer = zeroized(word, wide, x, header.bound as u64, new);
-            if is_word(answer) {
-                buffer::skip(context, partition);
-            }
-            answer
+            zeroized(word, wide, x, header.bound as u64, new)
         }
     }
 }
@@ -274,15 +246,14 @@ pub fn run(
     image: &[u8],
     cells: &mut [u32],
     marks: &[u32],
-    buffer: &[u32],
     context: &mut Context,
     command: Command,
 ) -> Answer
     ensures { outcome result (state cells.new context.new)
-        ≡ direct_of image.now marks.now buffer.now command (state cells.old context.old) }
+        ≡ direct_of image.now marks.now command (state cells.old context.old) }
 {
     match command {
-        Command::Read { cell } => read(image, cells, marks, buffer, cell),
+        Command::Read { cell } => read(image, cells, marks, cell),
         Command::Write { cell, value } => write(image, cells, marks, context, cell, value),
         Command::Zeroize { cell } => zeroize(image, cells, marks, context, cell),
     }

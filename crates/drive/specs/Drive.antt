@@ -1,13 +1,12 @@
--- A whole drive, map image, cells and marks: document 01, "Refusal numbers" 1, 2 and 10, and "Active slot and key cache", and request P9's
--- refusal 2. Assumes nothing.
-use Rattle.std.specs.Prelude.{ℕ, ◌≡◌, Bool, true, false, cond, ◌&&◌, not, List, [], ◌∷◌, ◌++◌, length, take, drop, eqb, ltb}
+-- A whole drive, map image, cells and marks: document 01, "Refusal numbers" 1, 2 and 10, and "Active slot and key cache". Assumes nothing.
+use Rattle.std.specs.Prelude.{ℕ, ◌≡◌, Bool, true, false, cond, ◌&&◌, not, List, [], ◌∷◌, length, take, drop, eqb, ltb}
 use Rattle.laws.specs.Below.{first_below}
 use Rattle.laws.specs.Refusals.{first_of}
 use Rattle.map.specs.Map.{header_of, entry_of, zeroizable, slot, map_good}
 use Rattle.partition.specs.declared.State.{State}
 use Rattle.partition.specs.declared.State.TheVariants.{Erased, Torn, Blank, Programmed}
 use Rattle.partition.specs.declared.Survey.{Survey}
-use Rattle.partition.specs.Partition.{counted, marked, survey_of}
+use Rattle.partition.specs.Partition.{marked, survey_of}
 use Rattle.cache.specs.Cache.{cache_of, has_place}
 use Rattle.cache.specs.declared.Sought.TheVariants.{Occupied}
 use Rattle.drive.specs.declared.Terms.{Terms}
@@ -29,19 +28,9 @@ drive_tests image cells marks =
     ∷ (not (whole_arrays image cells marks), 2)
     ∷ []
 
--- of a call that is lent a buffer, request P9: "2 also for a restart, READ or check whose buffer is not C long"
-abbrev pub buffer_tests : (image cells marks buffer : List ℕ) → List (Bool × ℕ)
-buffer_tests image cells marks buffer = drive_tests image cells marks ++ ((not (eqb (length buffer) (header_of image).cells), 2) ∷ [])
-
--- the check: the first of the tests that applies, else the header
-abbrev pub check_by : (tests : List (Bool × ℕ)) (image : List ℕ) → Check
-check_by tests image = first_of Refused tests (Ready (header_of image))
-
+-- the check: the first of the two that applies, else the header
 unfoldable pub check_of : (image cells marks : List ℕ) → Check
-check_of image cells marks = check_by (drive_tests image cells marks) image
-
-unfoldable pub buffer_check_of : (image cells marks buffer : List ℕ) → Check
-buffer_check_of image cells marks buffer = check_by (buffer_tests image cells marks buffer) image
+check_of image cells marks = first_of Refused (drive_tests image cells marks) (Ready (header_of image))
 
 -- a map and cells that neither refusal concerns: what the functions below the entry points ask for
 pub record Whole (image cells : List ℕ) : Type 0 where
@@ -61,10 +50,6 @@ terms_of image i = record { bound = (header_of image).bound; zeroizable = zeroiz
 -- the state and the short pairs of partition i
 unfoldable pub survey_at : (image cells : List ℕ) (i : ℕ) → Survey
 survey_at image cells i = survey_of (zeroizable (entry_of image i)) (header_of image).bound (cells_of image cells i)
-
--- partition i is "counted as zeroized": by the bound, whatever its state
-unfoldable pub counted_at : (image cells : List ℕ) (i : ℕ) → Bool
-counted_at image cells i = counted (zeroizable (entry_of image i)) (header_of image).bound (cells_of image cells i)
 
 -- partition i is marked (request P4)
 unfoldable pub marked_at : (image cells : List ℕ) (i : ℕ) → Bool

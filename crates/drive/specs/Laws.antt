@@ -1,11 +1,11 @@
 -- The drive's laws: what a check that refuses nothing tells, and the answers of the walk over the slots. Assumes nothing.
 use Rattle.std.specs.Prelude.{ℕ, ◌+◌, ◌-◌, ◌≤◌, ◌<◌, ◌≡◌, refl, Bool, true, false, not, ◌&&◌, length, take, drop, eqb, ltb}
-use Rattle.std.proofs.Math.Path.{sym, ap}
-use Rattle.std.proofs.Common.{◌∙◌, arith, length-take}
+use Rattle.std.proofs.Common.{sym, ◌∙◌, arith, length-take}
+use Rattle.std.proofs.Math.Path.{ap}
 use Rattle.std.proofs.Math.Logic.{⊎_elim}
 use Rattle.std.proofs.Math.Bool.{cond}
-use mathlib.Core.List.{List, [], ◌∷◌, ◌++◌}
-use borrow.Author.Tests.{ltb-true, ltb-false, eqb-true, eq-eqb, ne_eqb, lt-ltb, le-ltb, not-false}
+use mathlib.Core.List.{List, ◌++◌}
+use borrow.Author.Tests.{ltb-true, ltb-false, eqb-true, lt-ltb, le-ltb, not-false}
 use Rattle.laws.specs.Tests.{and, decided}
 use Rattle.laws.specs.Below.{First, first_tells, first_same, count_le, tally_le}
 use Rattle.laws.specs.Refusals.{first_of, test_at, refusal_at, Past, refused_at, past_all, first_elim, first_both}
@@ -25,8 +25,7 @@ use Rattle.drive.specs.declared.Check.{Check}
 use Rattle.drive.specs.declared.Check.TheVariants.{Ready, Refused}
 use Rattle.drive.specs.declared.ActiveSlot.{ActiveSlot}
 use Rattle.drive.specs.declared.ActiveSlot.TheVariants.{Absent}
-use Rattle.drive.specs.Drive.{Whole, whole_arrays, drive_tests, check_of, buffer_tests, check_by, buffer_check_of, cells_of, terms_of}
-use Rattle.drive.specs.Drive.{survey_at, counted_at, marked_at, slot_in, slot_at, present}
+use Rattle.drive.specs.Drive.{Whole, whole_arrays, drive_tests, check_of, cells_of, terms_of, survey_at, marked_at, slot_in, slot_at, present}
 use Rattle.drive.specs.Drive.{open_slot, active_place, active_slot, slot_in_use}
 
 -- ---- the check
@@ -71,82 +70,24 @@ judged image cells marks header =
       header_is = cc;
     })
 
--- a call's refusals begin with the check's: what the check answers, the whole list answers
-module _ {A : Type 0} (refuse : ℕ → A) (rest : List (Bool × ℕ)) (accepted : A) (image : List ℕ) where
-  refused_by : (tests : List (Bool × ℕ)) (n : ℕ) → Refused n ≡ check_by tests image → first_of refuse tests (first_of refuse rest accepted) ≡ refuse n
-  refused_by tests n =
-      first_both (λ (check : Check) (a : A). Refused n ≡ check → a ≡ refuse n) Refused refuse tests (Ready (header_of image)) (first_of refuse rest accepted)
+-- a call's refusals begin with the drive's: what the check answers, the whole list answers
+module _ {A : Type 0} (refuse : ℕ → A) (rest : List (Bool × ℕ)) (accepted : A) (image cells marks : List ℕ) where
+  pub check_refused : (n : ℕ) → Refused n ≡ check_of image cells marks → first_of refuse (drive_tests image cells marks ++ rest) accepted ≡ refuse n
+  unfolding check_of
+  check_refused n =
+      first_both (λ (check : Check) (a : A). Refused n ≡ check → a ≡ refuse n) Refused refuse (drive_tests image cells marks)
+      (Ready (header_of image)) (first_of refuse rest accepted)
       (λ m _ e. let same : n ≡ m = cc in rw same)
       (λ _ e. absurd (not_ready (sym e)))
 
-  passed_by : (tests : List (Bool × ℕ)) (header : Header) → Ready header ≡ check_by tests image
-      → first_of refuse tests (first_of refuse rest accepted) ≡ first_of refuse rest accepted
-  passed_by tests header =
-      first_both (λ (check : Check) (a : A). Ready header ≡ check → a ≡ first_of refuse rest accepted) Refused refuse tests
+  pub check_passed : (header : Header) → Ready header ≡ check_of image cells marks
+      → first_of refuse (drive_tests image cells marks ++ rest) accepted ≡ first_of refuse rest accepted
+  unfolding check_of
+  check_passed header =
+      first_both (λ (check : Check) (a : A). Ready header ≡ check → a ≡ first_of refuse rest accepted) Refused refuse (drive_tests image cells marks)
       (Ready (header_of image)) (first_of refuse rest accepted)
       (λ m _ e. absurd (not_ready e))
       (λ _ e. refl)
-
-  module _ (cells marks : List ℕ) where
-    pub check_refused : (n : ℕ) → Refused n ≡ check_of image cells marks → first_of refuse (drive_tests image cells marks ++ rest) accepted ≡ refuse n
-    unfolding check_of
-    check_refused = refused_by (drive_tests image cells marks)
-
-    pub check_passed : (header : Header) → Ready header ≡ check_of image cells marks
-        → first_of refuse (drive_tests image cells marks ++ rest) accepted ≡ first_of refuse rest accepted
-    unfolding check_of
-    check_passed = passed_by (drive_tests image cells marks)
-
-    -- and of a call that is lent a buffer
-    module _ (buffer : List ℕ) where
-      pub buffer_refused : (n : ℕ) → Refused n ≡ buffer_check_of image cells marks buffer
-          → first_of refuse (buffer_tests image cells marks buffer ++ rest) accepted ≡ refuse n
-      unfolding buffer_check_of
-      buffer_refused = refused_by (buffer_tests image cells marks buffer)
-
-      pub buffer_passed : (header : Header) → Ready header ≡ buffer_check_of image cells marks buffer
-          → first_of refuse (buffer_tests image cells marks buffer ++ rest) accepted ≡ first_of refuse rest accepted
-      unfolding buffer_check_of
-      buffer_passed = passed_by (buffer_tests image cells marks buffer)
-
--- the buffer's check, by the drive's: its refusal, or 2, or neither
-module _ (image cells marks buffer : List ℕ) where
-  abbrev long_test : List (Bool × ℕ)
-  long_test = (not (eqb (length buffer) (header_of image).cells), 2) ∷ []
-
-  pub buffer_bad : (n : ℕ) → Refused n ≡ check_of image cells marks → Refused n ≡ buffer_check_of image cells marks buffer
-  unfolding buffer_check_of
-  buffer_bad n e = sym (check_refused Refused long_test (Ready (header_of image)) image cells marks n e)
-
-  module _ (header : Header) (e : Ready header ≡ check_of image cells marks) where
-    pub buffer_short : (length buffer ≡ header.cells → ⊥) → Refused 2 ≡ buffer_check_of image cells marks buffer
-    unfolding buffer_check_of
-    buffer_short o =
-        let is = (judged image cells marks header e).header_is in
-        let other = ne_eqb (length buffer) (header_of image).cells (λ q. o (q ∙ ap (λ (h : Header). h.cells) (sym is))) in
-        sym (check_passed Refused long_test (Ready (header_of image)) image cells marks header e ∙ rw other)
-
-    pub buffer_fits : length buffer ≡ header.cells → Ready header ≡ buffer_check_of image cells marks buffer
-    unfolding buffer_check_of
-    buffer_fits q =
-        let is = (judged image cells marks header e).header_is in
-        let same = eq-eqb (length buffer) (header_of image).cells (q ∙ ap (λ (h : Header). h.cells) is) in
-        ap Ready is ∙ sym (check_passed Refused long_test (Ready (header_of image)) image cells marks header e ∙ rw same)
-
-  -- what an accepted one tells
-  pub buffer_judged : (header : Header) → Ready header ≡ buffer_check_of image cells marks buffer
-      → Judged image cells marks header × (length buffer ≡ (header_of image).cells)
-  unfolding buffer_check_of
-  buffer_judged header =
-      first_elim (λ (check : Check). Ready header ≡ check → Judged image cells marks header × (length buffer ≡ (header_of image).cells)) Refused
-      (buffer_tests image cells marks buffer) (Ready (header_of image))
-      (λ n _ e. absurd (not_ready e))
-      (λ none e.
-      let header_is : header ≡ header_of image = cc in (
-        judged image cells marks header
-            (check_past image cells marks (none 0, (none 1, tt)) header_is),
-        eqb-true _ _ (not-false _ (none 2)),
-      ))
 
 -- ---- the active slot, by where a walk over the slots ended
 
@@ -169,11 +110,6 @@ module _ (image cells : List ℕ) (i : ℕ) (terms : Terms) (part : List ℕ) (t
   unfolding survey_at
   survey_is r q = cc
 
-pub counted_here : (image cells : List ℕ) (i : ℕ) {terms : Terms} {part : List ℕ} → terms ≡ terms_of image i → part ≡ cells_of image cells i
-    → (r : Bool) → r ≡ counted terms.zeroizable terms.bound part → r ≡ counted_at image cells i
-unfolding counted_at
-counted_here image cells i t p r q = rw (q, t, p)
-
 pub marked_here : (image cells : List ℕ) (i : ℕ) {x : Entry} {may : Bool} {part : List ℕ} → x ≡ entry_of image i → may ≡ zeroizable x
     → part ≡ cells_of image cells i → (r : Bool) → r ≡ marked may part → r ≡ marked_at image cells i
 unfolding marked_at
@@ -187,18 +123,14 @@ erased_one_most image cells i e =
     let bound = (header_of image).bound in
     omega (arith, erased_shorts z bound (cells_of image cells i) e, tally_le (not (counted z bound (cells_of image cells i))))
 
--- a partition has at most 2,048 cells, so 1,024 pairs, short or not
+-- a partition has at most 1,024 pairs, short or not
 module _ (image cells : List ℕ) (good : map_good image ≡ true) (i : ℕ) (l : i < (header_of image).partitions) where
-  pub part_most : length (cells_of image cells i) ≤ 2048
-  part_most =
-      let h = map_header image good in
-      let x = map_entry image good i l in
-      simp length-take (omega arith)
-
   pub shorts_most : (bound : ℕ) → short_pairs bound (cells_of image cells i) ≤ 1024
   shorts_most bound =
+      let h = map_header image good in
+      let x = map_entry image good i l in
       let part = cells_of image cells i in
-      let long = part_most in
+      let long : length part ≤ (entry_of image i).n = simp length-take (omega arith) in
       let short = count_le (short_at bound part) (pairs part) in
       omega arith
 

@@ -1,5 +1,4 @@
--- The active slot, by computation: two slots of six cells, bound 60, each erased, torn at 59, blank or programmed; the refusals 1 and 2;
--- and what is counted as zeroized. Assumes nothing.
+-- The active slot, by computation: two slots of six cells, bound 60, each erased, torn at 59, blank or programmed. Assumes nothing.
 use Rattle.std.specs.Prelude.{ℕ, ◌≡◌, refl, true, false, List, [], ◌∷◌, ◌++◌, map, replicate}
 use Rattle.std.specs.Int.Count.{ones_in}
 use Rattle.laws.specs.Tests.{every}
@@ -8,9 +7,9 @@ use Rattle.endian.specs.Endian.{u16_at}
 use Rattle.map.specs.Map.{header_good, filler_good, entry_good, place_good, map_good}
 use Rattle.map.specs.Image.{image, entry}
 use Rattle.map.specs.Vectors.{one}
-use Rattle.partition.specs.Partition.{short_at, counted, marked, zero_cell, state_of}
-use Rattle.drive.specs.Drive.{whole_arrays, check_of, buffer_check_of, survey_at, counted_at, marked_at, slot_at, open_slot, active_slot, available}
-use Rattle.drive.specs.declared.Check.TheVariants.{Ready, Refused}
+use Rattle.partition.specs.Partition.{short_at, marked, zero_cell, state_of}
+use Rattle.drive.specs.Drive.{whole_arrays, check_of, survey_at, slot_at, open_slot, active_slot, available}
+use Rattle.drive.specs.declared.Check.TheVariants.{Refused}
 use Rattle.drive.specs.declared.ActiveSlot.{ActiveSlot}
 use Rattle.drive.specs.declared.ActiveSlot.TheVariants.{Programmed, Blank, Torn, Absent}
 
@@ -54,30 +53,3 @@ refusals :
     ≡ Refused 1 ∷ Refused 2 ∷ Refused 2 ∷ []
 unfolding check_of whole_arrays map_good every header_good filler_good entry_good place_good all_below u16_at
 refusals = refl
-
--- request P9: 2 also for a buffer that is one cell short or long; 1, and 2 for the arrays, come first
-buffers :
-    buffer_check_of [] [] [] []
-    ∷ buffer_check_of (one (entry 0 6 0 16)) (replicate 11 0) (replicate 12 0) (replicate 12 0)
-    ∷ buffer_check_of (one (entry 0 6 0 16)) (replicate 12 0) (replicate 12 0) (replicate 11 0)
-    ∷ buffer_check_of (one (entry 0 6 0 16)) (replicate 12 0) (replicate 12 0) (replicate 13 0)
-    ∷ buffer_check_of (one (entry 0 6 0 16)) (replicate 12 0) (replicate 12 0) (replicate 12 5)
-    ∷ []
-    ≡ Refused 1 ∷ Refused 2 ∷ Refused 2 ∷ Refused 2 ∷ Ready (record { partitions = 1; cells = 12; bound = 60; offset = 8 }) ∷ []
-unfolding buffer_check_of whole_arrays map_good every header_good filler_good entry_good place_good all_below u16_at
-buffers = refl
-
--- "counted as zeroized" by the bound: 60 ones of the indicator are, 59 are not, and mark their partition all the same; one that is not
--- zeroizable is never
-abbrev indicated : (high : ℕ) → List ℕ
-indicated high = replicate 4 0 ++ (0xFFFF_FFFF ∷ high ∷ replicate 6 0)
-
-count :
-    counted_at (one (entry 0 6 0 17)) (indicated 0xFFFF_FFF0) 0
-    ∷ counted_at (one (entry 0 6 0 17)) (indicated 0xFFFF_FFE0) 0
-    ∷ marked_at (one (entry 0 6 0 17)) (indicated 0xFFFF_FFE0) 0
-    ∷ counted_at (one (entry 0 6 0 16)) (indicated 0xFFFF_FFFF) 0
-    ∷ []
-    ≡ true ∷ false ∷ true ∷ false ∷ []
-unfolding counted_at marked_at counted marked short_at u16_at ones_in
-count = refl

@@ -1,13 +1,12 @@
 // A whole drive: map image, fuse cells and stuck marks together. The refusals that every call
-// shares, with those of the calls that are lent a buffer, a partition's state, the active slot with its HEK,
-// and whether a slot may not change, since a place of the cache is not empty. The entry points are
-// `check_drive` and `check_buffer`, which answer for any bytes and any lengths; what
+// shares, a partition's state, the active slot with its HEK, and whether a slot may not change, since
+// a place of the cache is not empty. The entry point is `check_drive`, which answers for any bytes and any lengths; what
 // asks for a whole drive is for callers that it has accepted. The definitions are in `specs/Drive`,
 // the laws for callers in `specs/Laws` and, of the active slot, in `specs/Active`. It rests on `map`,
 // `partition` and `cache`, and below them on `context`, `endian` and `laws`.
 ghost use Rattle.std.specs.Prelude.{◌≡◌, ◌<◌};
 ghost use Rattle.map.specs.Map.{header_of};
-ghost use Rattle.drive.specs.Drive.{Whole, check_of, buffer_check_of, cells_of, terms_of, survey_at, counted_at, marked_at, slot_at, present, slot_number, available, active_slot, slot_in_use};
+ghost use Rattle.drive.specs.Drive.{Whole, check_of, cells_of, terms_of, survey_at, marked_at, slot_at, present, slot_number, available, active_slot, slot_in_use};
 
 use cache::Sought;
 use context::Context;
@@ -44,21 +43,6 @@ pub fn check_drive(image: &[u8], cells: &[u32], marks: &[u32]) -> Check
         return Check::Ready(header);
     }
     Check::Refused(2)
-}
-
-// Judges map, cells, marks and a buffer: refusals 1 and 2 in this order.
-pub fn check_buffer(image: &[u8], cells: &[u32], marks: &[u32], buffer: &[u32]) -> Check
-    ensures { result ≡ buffer_check_of image.now cells.now marks.now buffer.now }
-{
-    match check_drive(image, cells, marks) {
-        Check::Refused(number) => Check::Refused(number),
-        Check::Ready(header) => {
-            if buffer.len() != (header.cells as usize) {
-                return Check::Refused(2);
-            }
-            Check::Ready(header)
-        }
-    }
 }
 
 // The cells of partition `i` of a drive that was judged: the part of the array that starts where the
@@ -107,15 +91,6 @@ pub fn marked_at(image: &[u8], cells: &[u32], i: u32) -> bool
 {
     let zeroizable = map::is_zeroizable(map::read_entry(image, i));
     partition::is_marked(part_of(image, cells, i), zeroizable)
-}
-
-// Whether partition `i` of a drive that was judged is counted as zeroized.
-pub fn counted_at(image: &[u8], cells: &[u32], i: u32) -> bool
-    requires { Whole image.now cells.now × (i < (header_of image.now).partitions) }
-    ensures { result ≡ counted_at image.now cells.now i }
-{
-    let terms = terms_of(image, i);
-    partition::is_counted(part_of(image, cells, i), terms.bound, terms.zeroizable)
 }
 
 // Partition `i` as the active slot: absent where it is no slot or is erased. It surveys its part itself:

@@ -6,7 +6,7 @@ use Rattle.std.proofs.Common.{◌∙◌, arith, leb-false, eqb-true, ne_eqb}
 use Rattle.std.proofs.lemmas.Bool.{not-false}
 use Rattle.laws.specs.Tests.{and}
 use Rattle.laws.specs.Refusals.{first_elim, first_both, not_numbered, GivenFirst, given_first, GivenLowest, lowest_tells}
-use Rattle.context.specs.State.{State, Outcome, refusing}
+use Rattle.context.specs.State.{State, Outcome, refusing, on_cells}
 use Rattle.map.specs.Map.{header_of, entry_of, software, map_good}
 use Rattle.map.specs.Laws.{map_entry}
 use Rattle.burns.specs.declared.End.{End}
@@ -17,7 +17,7 @@ use Rattle.burns.specs.Ends.{run_late, run_early, run_burns, never_cut}
 use Rattle.drive.specs.Drive.{Whole as WholeDrive, whole_arrays, cells_of}
 use Rattle.erasure.specs.declared.Answer.{Answer}
 use Rattle.erasure.specs.declared.Answer.TheVariants.{Ended, Cut, Refused}
-use Rattle.erasure.specs.Erasure.{erase_tests, in_whole, run_on, never, answer_by, ran_of, unburned, ran_in, burning, erase_of, erasure_of, is_cut}
+use Rattle.erasure.specs.Erasure.{erase_tests, in_whole, run_on, never, answer_by, ran_of, unburned, burning, erase_of, erasure_of, is_cut}
 use Rattle.erasure.specs.Laws.{part_long, part_small}
 
 -- "Checked in ascending order; the lowest that applies is given, and none is given otherwise"
@@ -88,7 +88,7 @@ module _ (image marks : List ℕ) (i k mask : ℕ) (s : State) where
       (λ n _ late. refl)
       (λ none late.
       let r = run_on image s.cells marks i never 0 in
-      ap (λ (x : Ran). ran_in i s (ran_of image i x))
+      ap (λ (x : Ran). on_cells s (ran_of image i x))
       (late_run image s.cells i (whole_by image s.cells marks (not-false _ (none 0)) (not-false _ (none 1))) (leb-false _ _ (none 2)) marks k mask
       (rw (burns_in_lem image i r.tally r.end) at late)))
 

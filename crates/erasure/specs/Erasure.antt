@@ -1,8 +1,8 @@
--- Document 01, "Erasing a partition", with requests P8 and P9: the refusals of an erasure, the run over a partition of a drive, and what is
--- answered and left. Assumes nothing.
+-- Document 01, "Erasing a partition", with request P8: the refusals of an erasure, the run over a partition of a drive, and what is answered and left.
+-- Assumes nothing.
 use Rattle.std.specs.Prelude.{ℕ, ◌+◌, ◌-◌, ◌^◌, ◌<◌, ◌≡◌, Bool, true, false, cond, not, List, [], ◌∷◌, ◌++◌, leb, length, take, drop}
 use Rattle.laws.specs.Refusals.{first_of, number_of}
-use Rattle.context.specs.State.{State, state, with_context, Outcome, outcome, refusing}
+use Rattle.context.specs.State.{State, with_context, Outcome, outcome, refusing, on_cells}
 use Rattle.map.specs.Map.{header_of, entry_of, software, zeroizable}
 use Rattle.partition.specs.declared.Lowest.{Lowest}
 use Rattle.partition.specs.declared.Lowest.TheVariants.{Cell, Nothing}
@@ -14,7 +14,6 @@ use Rattle.drive.specs.declared.Check.{Check}
 use Rattle.drive.specs.declared.Check.TheVariants.{Ready, Refused as NotReady}
 use Rattle.drive.specs.Drive.{Whole as WholeDrive, drive_tests, cells_of, slot_in_use}
 use Rattle.cache.specs.Cache.{emptied}
-use Rattle.buffer.specs.Buffer.{skipping}
 use Rattle.erasure.specs.declared.Answer.{Answer}
 use Rattle.erasure.specs.declared.Answer.TheVariants.{Ended, Cut, Refused}
 
@@ -100,20 +99,9 @@ uncut_of image cells marks i = ran_of image i (run_on image cells marks i never 
 abbrev pub unburned : (number : ℕ) → Answer
 unburned number = Refused number 0
 
--- the context: request P9, the check of partition i is skipped when an "erasure of it since then has .. ended normally"; one that was cut
--- or refused does not count
-abbrev pub context_ended : (i : ℕ) → Answer → (context : List ℕ) → List ℕ
-context_ended i (Ended short first burns new) context = skipping i context
-context_ended i (Cut burns new) context = context
-context_ended i (Refused number burns) context = context
-
--- what a run leaves of a state
-abbrev pub ran_in : (i : ℕ) → State → Outcome Answer (List ℕ) → Outcome Answer State
-ran_in i s o = outcome o.told (state o.after (context_ended i o.told s.context))
-
 -- what an erasure does that no test refuses: its run on the state's cells
 abbrev pub burning : (image marks : List ℕ) (i k mask : ℕ) → State → Outcome Answer State
-burning image marks i k mask s = ran_in i s (ran_of image i (run_on image s.cells marks i k mask))
+burning image marks i k mask s = on_cells s (ran_of image i (run_on image s.cells marks i k mask))
 
 -- an erasure of partition i, cut at burn k if its order reaches it
 unfoldable pub erase_of : (image marks : List ℕ) (i k mask : ℕ) → State → Outcome Answer State
@@ -139,3 +127,9 @@ after_cut o =
 -- the cut erasure
 abbrev pub cut_erasure_of : (image marks : List ℕ) (i k mask : ℕ) → State → Outcome Answer State
 cut_erasure_of image marks i k mask s = after_cut (erase_of image marks i k mask s)
+
+-- ---- the restart
+
+-- "A restart empties the cache and changes nothing else"; by request P5 it drops an awaited reply
+abbrev pub restarted : State → State
+restarted s = with_context (emptied s.context) s

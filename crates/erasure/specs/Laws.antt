@@ -1,12 +1,12 @@
 -- The laws of an erasure on a drive: its refusal's number, the run over the partition that was read, and what is answered. Assumes nothing.
 use Rattle.std.specs.Prelude.{ℕ, ◌+◌, ◌-◌, ◌%◌, ◌^◌, ◌≤◌, ◌<◌, ◌≡◌, Bool, true, false, cond, length, take, drop}
-use Rattle.std.proofs.Math.Path.{refl, sym}
-use Rattle.std.proofs.Common.{ap, ◌∙◌, length-drop, length-take, leb-false}
+use Rattle.std.proofs.Math.Path.{refl, sym, ap}
+use Rattle.std.proofs.Common.{◌∙◌, length-drop, length-take, leb-false}
 use mathlib.Core.List.{List, [], ◌++◌}
 use native.Mathlib.Omega.{arith}
 use Rattle.std.proofs.lemmas.Bool.{not-false}
 use Rattle.laws.specs.Refusals.{number_of, test_at, refusal_at, Past, refused_at, past_all, number_refuses, number_passes}
-use Rattle.context.specs.State.{State, state, with_context, Outcome, outcome, refusing}
+use Rattle.context.specs.State.{State, with_cells, with_context, Outcome, outcome, refusing, on_cells}
 use Rattle.map.specs.declared.Header.{Header}
 use Rattle.map.specs.declared.Entry.{Entry}
 use Rattle.map.specs.Map.{header_of, entry_of, software}
@@ -27,7 +27,7 @@ use Rattle.drive.specs.Laws.{check_past, check_refused, check_passed, judged, pa
 use Rattle.cache.specs.Cache.{emptied}
 use Rattle.erasure.specs.declared.Answer.{Answer}
 use Rattle.erasure.specs.declared.Answer.TheVariants.{Ended, Refused}
-use Rattle.erasure.specs.Erasure.{partition_tests, erase_tests, refusal_by, Erasable, in_whole, run_on, first_short, answer_by, ran_of, unburned, context_ended, ran_in, burning}
+use Rattle.erasure.specs.Erasure.{partition_tests, erase_tests, refusal_by, Erasable, in_whole, run_on, first_short, answer_by, ran_of, unburned, burning}
 use Rattle.erasure.specs.Erasure.{erase_of, is_cut, after_cut}
 
 -- ---- which of the partition's tests gives the number, by the test's place; 0 where none does
@@ -141,9 +141,9 @@ module _ (image marks : List ℕ) (i : ℕ) (s : State) {check : Check} (c : che
     erase_refused o = sym (number_refuses (refusing unburned s) [] runs tests n number o)
 
     pub erase_runs : n ≡ 0 → {answer : Answer} {cells : List ℕ} → outcome answer cells ≡ ran_of image i (run_on image s.cells marks i k mask)
-        → {context : List ℕ} → context ≡ context_ended i answer s.context → outcome answer (state cells context) ≡ erase_of image marks i k mask s
+        → outcome answer (with_cells cells s) ≡ erase_of image marks i k mask s
     unfolding erase_of
-    erase_runs z e q = rw q (ap (ran_in i s) e) ∙ sym (number_passes (refusing unburned s) [] runs tests refl (sym z ∙ number)).is
+    erase_runs z e = ap (on_cells s) e ∙ sym (number_passes (refusing unburned s) [] runs tests refl (sym z ∙ number)).is
 
   pub erasable : n ≡ 0 → Erasable image s.cells marks i
   erasable z =

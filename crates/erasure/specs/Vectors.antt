@@ -33,43 +33,39 @@ start = cells 3 0 0 0 0 0
 abbrev marks : (m7 m10 m11 : ℕ) → List ℕ
 marks m7 m10 m11 = replicate 7 0 ++ (m7 ∷ 0 ∷ 0 ∷ m10 ∷ m11 ∷ replicate 4 0)
 
--- a context with one place that waits for the reply to its load, and one with every place empty and none awaited; each with partition 1's
--- skip flag (request P9)
-abbrev behind : (skip : ℕ) → List ℕ
-behind skip = replicate 21 0 ++ (0 ∷ skip ∷ replicate 14 0)
+-- a context with one place that waits for the reply to its load, and one with every place empty and none awaited
+abbrev waits : List ℕ
+waits = 2 ∷ replicate 15 0 ++ (5 ∷ replicate 15 0) ++ (2 ∷ [])
 
-abbrev waits : (skip : ℕ) → List ℕ
-waits skip = 2 ∷ replicate 15 0 ++ (5 ∷ replicate 15 0) ++ (2 ∷ []) ++ behind skip
-
-abbrev none : (skip : ℕ) → List ℕ
-none skip = replicate 33 0 ++ behind skip
+abbrev none : List ℕ
+none = replicate 33 0
 
 -- whole: four burns, one short pair, named by its cell in the whole array; the indicator's alone, of which one fuse has burned; and 15,
--- which leaves every cell. Those that ended skip the check of the partition, 15 does not
+-- which leaves every cell
 erasures :
-    erasure_of drive (marks 0x1F 0 0) 1 (state start (waits 0))
-    ∷ erasure_of drive (marks 0 0xFFFF_FFFE all) 1 (state start (waits 0))
-    ∷ erasure_of drive (marks 0 all all) 1 (state start (waits 0))
+    erasure_of drive (marks 0x1F 0 0) 1 (state start waits)
+    ∷ erasure_of drive (marks 0 0xFFFF_FFFE all) 1 (state start waits)
+    ∷ erasure_of drive (marks 0 all all) 1 (state start waits)
     ∷ []
-    ≡ outcome (Ended 1 6 4 185) (state (cells all 0xFFFF_FFE0 all all all all) (waits 1))
-    ∷ outcome (Ended 1 10 4 127) (state (cells all all all all 1 0) (waits 1))
-    ∷ outcome (Refused 15 1) (state start (waits 0))
+    ≡ outcome (Ended 1 6 4 185) (state (cells all 0xFFFF_FFE0 all all all all) waits)
+    ∷ outcome (Ended 1 10 4 127) (state (cells all all all all 1 0) waits)
+    ∷ outcome (Refused 15 1) (state start waits)
     ∷ []
 unfolding erase_of map_good whole_arrays every header_good filler_good entry_good place_good all_below u16_at run_on burns_of order words_from burn_word burn_cell new_fuses set_fuses stops_after
     goes_on marked short_at count_below lowest_short first_from ones_in cache_of is_at
 erasures = refl
 
--- cut at the second data word, burn 2: the mask's low 32 bits go into it, three burns, and the skip flag stays; a cut at burn 4, past the
--- order, is none: it leaves the cache, has ended, and skips the check
-cuts : cut_erasure_of drive (marks 0 0 0) 1 2 0x3_0000_0005 (state start (waits 0)) ∷ cut_erasure_of drive (marks 0 0 0) 1 4 0 (state start (waits 0)) ∷ []
-    ≡ outcome (Cut 3 96) (state (cells all 5 0 0 all all) (none 0)) ∷ outcome (Ended 0 0xFFFF_FFFF 4 190) (state (cells all all all all all all) (waits 1)) ∷ []
+-- cut at the second data word, burn 2: the mask's low 32 bits go into it, three burns; a cut at burn 4, past the order, is none, and
+-- leaves the cache
+cuts : cut_erasure_of drive (marks 0 0 0) 1 2 0x3_0000_0005 (state start waits) ∷ cut_erasure_of drive (marks 0 0 0) 1 4 0 (state start waits) ∷ []
+    ≡ outcome (Cut 3 96) (state (cells all 5 0 0 all all) none) ∷ outcome (Ended 0 0xFFFF_FFFF 4 190) (state (cells all all all all all all) waits) ∷ []
 unfolding erase_of map_good whole_arrays every header_good filler_good entry_good place_good all_below u16_at run_on burns_of order words_from burn_word burn_cell new_fuses set_fuses stops_after
     goes_on marked short_at count_below lowest_short first_from ones_in cache_of is_at emptied
 cuts = refl
 
 -- 1, 2, 7, 8 and 10, with a key that waits, and every fuse of the slot's indicator stuck, so that 15 would follow 10
 abbrev refusal_of : (image cells : List ℕ) (i : ℕ) → Answer
-refusal_of image cells i = (erasure_of image (replicate 4 0 ++ (all ∷ all ∷ replicate 10 0)) i (state cells (waits 0))).told
+refusal_of image cells i = (erasure_of image (replicate 4 0 ++ (all ∷ all ∷ replicate 10 0)) i (state cells waits)).told
 
 refusals : refusal_of [] [] 9 ∷ refusal_of drive [] 9 ∷ refusal_of drive start 3 ∷ refusal_of drive start 2 ∷ refusal_of drive start 0 ∷ []
     ≡ Refused 1 0 ∷ Refused 2 0 ∷ Refused 7 0 ∷ Refused 8 0 ∷ Refused 10 0 ∷ []

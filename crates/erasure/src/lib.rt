@@ -1,18 +1,18 @@
-// The erasure of a partition of a drive, whole or cut by a power failure. A call is judged, the lowest
-// refusal first; then the one run of `burns` is made over the partition's part of the array, cut or not. An
-// erasure that ended has the partition's consistency check skipped from then on. `erase` and `erase_cut` are
-// the entry points: they answer for any bytes and any lengths. `erase_judged` serves FERS too. The definitions are in `specs/Erasure`, the laws
+// The erasure of a partition of a drive, whole or cut by a power failure, and the restart. A call is
+// judged, the lowest refusal first; then the one run of `burns` is made over the partition's part of
+// the array, cut or not. `erase`, `erase_cut` and `restart` are the entry points: they answer for any
+// bytes and any lengths. `erase_judged` serves FERS too. The definitions are in `specs/Erasure`, the laws
 // in `specs/Laws`, what a run leaves of the whole array in `specs/Parts`, what holds of cuts in
 // `specs/Cuts`, what an answer says of the partition in `specs/Ends`, and of the fuses newly set in
-// `specs/Charge`. It rests on `burns`, `drive`, `cache`, `buffer`, `context` and what lies below them.
+// `specs/Charge`. It rests on `burns`, `drive`, `cache`, `context` and what lies below them.
 ghost use Rattle.std.specs.Prelude.{◌≡◌, ◌^◌, ◌<◌, ◌≤◌};
 ghost use Rattle.laws.specs.Refusals.{number_of};
 ghost use Rattle.map.specs.Map.{header_of};
 ghost use Rattle.burns.specs.Run.{tally_of, ran_as};
 ghost use Rattle.drive.specs.Drive.{Whole};
+ghost use Rattle.cache.specs.Cache.{emptied};
 ghost use Rattle.context.specs.State.{state, outcome};
-ghost use Rattle.erasure.specs.Erasure.{partition_tests, Erasable, run_on, first_short, answer_by, ran_of, refusal_by};
-ghost use Rattle.erasure.specs.Erasure.{context_ended, is_cut, uncut_of, erasure_of, cut_erasure_of};
+ghost use Rattle.erasure.specs.Erasure.{partition_tests, Erasable, run_on, first_short, answer_by, ran_of, refusal_by, is_cut, uncut_of, erasure_of, cut_erasure_of};
 
 use burns::{End, Report};
 use context::Context;
@@ -156,25 +156,6 @@ fn refusal_by(check: Check, image: &[u8], i: u32, context: &Context) -> u32
     }
 }
 
-// Skips the check of partition `i` if its erasure ended.
-fn note_end(context: &mut Context, i: u32, answer: Answer)
-    ensures { context.new ≡ context_ended i answer context.old }
-{
-    match answer {
-        Answer::Ended {
-            short: _,
-            first: _,
-            burns: _,
-            new: _,
-        } => buffer::skip(context, i),
-        Answer::Cut { burns: _, new: _ } => (),
-        Answer::Refused {
-            number: _,
-            burns: _,
-        } => (),
-    }
-}
-
 // The erasure of partition `i`.
 pub fn erase(
     image: &[u8],
@@ -193,9 +174,7 @@ pub fn erase(
             burns: 0,
         };
     }
-    let answer = erase_judged(image, cells, marks, i);
-    note_end(context, i, answer);
-    answer
+    erase_judged(image, cells, marks, i)
 }
 
 // Whether an erasure was cut.
@@ -239,9 +218,15 @@ pub fn erase_cut(
         };
     }
     let answer = run_judged(image, cells, marks, i, k, mask);
-    note_end(context, i, answer);
     if is_cut(answer) {
         cache::clear(context);
     }
     answer
+}
+
+// A restart: it empties the cache, and is lent nothing but the context.
+pub fn restart(context: &mut Context)
+    ensures { context.new ≡ emptied context.old }
+{
+    cache::clear(context);
 }

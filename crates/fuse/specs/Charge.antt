@@ -3,7 +3,7 @@
 -- Assumes nothing.
 use Prim.Native.Nat.{ℕ, zero, suc, ◌+◌, ◌-◌, ◌*◌, ◌/◌, ◌%◌, ◌^◌, ◌≤◌, ◌<◌}
 use Rattle.std.specs.Prelude.{◌≡◌, Bool, true, List, [], ◌∷◌, ◌++◌, length, set, take, drop}
-use Rattle.std.proofs.Common.{sym, ◌∙◌, inl, inr, le_trans, mod-eq_of_lt, length-set, length-take, length-drop, take-append-drop, add-one, take_all, take-suc, drop-drop}
+use Rattle.std.proofs.Common.{sym, ◌∙◌, inl, inr, le_trans, mod-eq_of_lt, length-set, length-take, length-drop, take-append-drop, take_all, drop-drop}
 use Rattle.std.proofs.Math.Path.{ap}
 use Rattle.std.proofs.Math.Bool.{false}
 use Rattle.std.proofs.Math.Nat.{zero-div, mod-mod}
@@ -26,15 +26,10 @@ unfolding set_fuses
 set_append [] m = omega arith
 set_append (x ∷ l) m = omega (arith, set_append l m)
 
-pub set_most : (l : List ℕ) → set_fuses l ≤ 32 * length l
+set_most : (l : List ℕ) → set_fuses l ≤ 32 * length l
 unfolding set_fuses
 set_most [] = omega arith
 set_most (x ∷ l) = omega (arith, count_le 32 x, set_most l)
-
--- one cell more
-pub set_next : (l : List ℕ) (k : ℕ) → k < length l → set_fuses (take (k + 1) l) ≡ set_fuses (take k l) + ones_in 32 (get_or l k 0)
-unfolding set_fuses
-set_next l k h = rw (add-one k, take-suc l k 0 h, set_append (take k l) (get_or l k 0 ∷ [])) (omega arith)
 
 -- another cell at k
 set_other : (l : List ℕ) (k a : ℕ) → k < length l → set_fuses (set l k a) + ones_in 32 (get_or l k 0) ≡ set_fuses l + ones_in 32 a

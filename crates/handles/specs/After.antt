@@ -1,10 +1,8 @@
 -- What a rotation and a fresh table leave: the table afterwards, and all that stores behind the cache keep. Assumes nothing.
 use Rattle.std.specs.Prelude.{ℕ, ◌+◌, ◌^◌, ◌≤◌, ◌<◌, ◌≡◌, List, ltb, length, get_or, set, take, drop}
-use Rattle.std.proofs.Common.{sym, ap, ◌∙◌, inr, arith, length-set, length-drop, get_or-set_same, get_or-set_other, get_or-drop, drop-drop}
+use Rattle.std.proofs.Common.{sym, ap, ◌∙◌, arith, length-set, length-drop, get_or-set_same, get_or-set_other, get_or-drop, drop-drop}
 use Rattle.laws.specs.Tests.{cond_keeps}
-use borrow.Author.Tests.{ltb-true}
 use Rattle.context.specs.Context.{count_at, entries_at, greatest_at, part}
-use Rattle.context.specs.Laws.{store_apart}
 use Rattle.handles.specs.Handles.{most, entry_of, handle_of, algorithm_of, Long, table_of, handle_at, algorithm_at, rotated, rotated_at}
 use Rattle.handles.specs.Making.{made}
 use Rattle.handles.specs.Laws.{count_read, greatest_read, entry_read, rotated_in}
@@ -19,8 +17,8 @@ entry_algorithm handle algorithm l = omega arith
 
 -- ---- what is kept
 
-pub store_long : (context : List ℕ) (i v : ℕ) → Long context → Long (set context i v)
-store_long context i v long = rw (length-set context i v) long
+pub store_long : (context : List ℕ) (i v : ℕ) → count_at ≤ i → Long context → Long (set context i v)
+store_long context i v _ long = rw (length-set context i v) long
 
 -- the table lies in the words from its count on
 pub table_behind : (before after : List ℕ) → drop count_at after ≡ drop count_at before → table_of after ≡ table_of before
@@ -32,39 +30,26 @@ table_behind before after e =
     = ap (take most) (sym (drop-drop 1 count_at after) ∙ ap (drop 1) e ∙ drop-drop 1 count_at before) in
     rw (word 0, word 4, entries)
 
--- a store behind it leaves it
-pub table_front : (context : List ℕ) (i v : ℕ) → greatest_at < i → table_of (set context i v) ≡ table_of context
-unfolding table_of
-table_front context i v l =
-    rw (
-      get_or-set_other context i count_at v 0 (λ e. omega arith),
-      store_apart entries_at most context i v (inr (omega arith)),
-      get_or-set_other context i greatest_at v 0 (λ e. omega arith),
-    )
-
 -- and with them it is there
 pub long_behind : (before after : List ℕ) → drop count_at after ≡ drop count_at before → Long before → Long after
 long_behind before after e long = omega (arith, length-drop count_at after, length-drop count_at before, ap length e)
 
--- what every store into the table keeps, a rotation keeps, and a table that is made
-module _ (P : List ℕ → Type 0) (keeps : (context : List ℕ) (i v : ℕ) → count_at ≤ i → i ≤ greatest_at → P context → P (set context i v))
-    (context : List ℕ) (p : P context) where
+-- what every store from there on keeps, a rotation keeps, and a table that is made
+module _ (P : List ℕ → Type 0) (keeps : (context : List ℕ) (i v : ℕ) → count_at ≤ i → P context → P (set context i v)) (context : List ℕ) (p : P context) where
   pub rotated_keeps : (k number : ℕ) → P (rotated_at k number context)
   unfolding rotated
   rotated_keeps k number =
       cond_keeps P (ltb k most) (rotated k number context) context
-      (λ y.
-      let l = ltb-true k most y in
-      keeps _ greatest_at number (omega arith) (omega arith) (keeps context (entries_at + k) _ (omega arith) (omega arith) p)) (λ _. p)
+      (λ _. keeps _ greatest_at number (omega arith) (keeps context (entries_at + k) _ (omega arith) p)) (λ _. p)
 
   pub made_keeps : (handles algorithms : List ℕ) → P (made handles algorithms context)
   unfolding made
   made_keeps handles algorithms =
-      keeps _ greatest_at _ (omega arith) (omega arith)
-      (keeps _ (entries_at + 2) _ (omega arith) (omega arith)
-      (keeps _ (entries_at + 1) _ (omega arith) (omega arith)
-      (keeps _ entries_at _ (omega arith) (omega arith)
-      (keeps context count_at _ (omega arith) (omega arith) p))))
+      keeps _ greatest_at _ (omega arith)
+      (keeps _ (entries_at + 2) _ (omega arith)
+      (keeps _ (entries_at + 1) _ (omega arith)
+      (keeps _ entries_at _ (omega arith)
+      (keeps context count_at _ (omega arith) p))))
 
 -- ---- a rotation
 
@@ -77,7 +62,7 @@ module _ (k number : ℕ) (context : List ℕ) (long : Long context) (l : k < mo
 
   -- the words
   stored_long : Long stored
-  stored_long = store_long context (entries_at + k) entry long
+  stored_long = store_long context (entries_at + k) entry (omega arith) long
 
   pub rotated_count : (table_of (rotated_at k number context)).count ≡ (table_of context).count
   rotated_count =

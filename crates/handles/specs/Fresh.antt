@@ -1,8 +1,8 @@
 -- A fresh table: what among, distinct and largest say of a list of numbers, and that a table which is made is fresh, with the handles and
 -- algorithms that were given. Assumes nothing.
-use Rattle.std.specs.Prelude.{ℕ, zero, suc, ◌+◌, ◌^◌, ◌≤◌, ◌<◌, ◌≡◌, refl, true, false, not, List, [], ◌∷◌, map, eqb, ltb, length, get_or, take, set}
+use Rattle.std.specs.Prelude.{ℕ, zero, suc, ◌+◌, ◌^◌, ◌≤◌, ◌<◌, ◌≡◌, refl, Bool, true, false, not, List, [], ◌∷◌, map, eqb, ltb, length, get_or, take, set}
 use Rattle.std.proofs.Math.Path.{sym}
-use Rattle.std.proofs.Common.{ap, ap₂, subst, ◌∙◌, ⊎_elim, arith, not-suc-le-zero, le_of_suc-le-suc, drop-cons, eqb-true, eq-eqb, lt-ltb, le-leb, ltb-true, ltb-false}
+use Rattle.std.proofs.Common.{ap, ap₂, subst, ◌∙◌, ⊎_elim, arith, not-suc-le-zero, le_of_suc-le-suc, length-set, drop-cons, eqb-true, eq-eqb, lt-ltb, le-leb, ltb-true, ltb-false}
 use Rattle.std.proofs.lemmas.Bool.{false≢true, not-false, not-true}
 use Rattle.std.proofs.Math.Seq.{get_or-set_same, get_or-set_other}
 use Rattle.laws.specs.Tests.{and, either, decided, not_yes, cond_keeps}
@@ -101,7 +101,7 @@ entries_long context long = ap length (three_entries context long)
 module _ (handles algorithms context : List ℕ) (long : Long context) where
   -- it has the words that were stored
   made_long : Long (made handles algorithms context)
-  made_long = made_keeps Long (λ c i v _ _ l. store_long c i v l) context long handles algorithms
+  made_long = made_keeps Long store_long context long handles algorithms
 
   -- how they are stored, one after the other
   abbrev counted : List ℕ
@@ -117,16 +117,16 @@ module _ (handles algorithms context : List ℕ) (long : Long context) where
   three = set two (entries_at + 2) (entry_from handles algorithms 2)
 
   counted_long : Long counted
-  counted_long = store_long context count_at (length handles) long
+  counted_long = store_long context count_at (length handles) (omega arith) long
 
   one_long : Long one
-  one_long = store_long counted entries_at (entry_from handles algorithms 0) counted_long
+  one_long = store_long counted entries_at (entry_from handles algorithms 0) (omega arith) counted_long
 
   two_long : Long two
-  two_long = store_long one (entries_at + 1) (entry_from handles algorithms 1) one_long
+  two_long = store_long one (entries_at + 1) (entry_from handles algorithms 1) (omega arith) one_long
 
   three_long : Long three
-  three_long = store_long two (entries_at + 2) (entry_from handles algorithms 2) two_long
+  three_long = store_long two (entries_at + 2) (entry_from handles algorithms 2) (omega arith) two_long
 
   pub made_greatest : (table_of (made handles algorithms context)).greatest ≡ largest handles
   unfolding made

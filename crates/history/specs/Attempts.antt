@@ -15,7 +15,7 @@ use Rattle.burns.specs.declared.End.TheVariants.{Whole, Stopped, Cut as CutEnd}
 use Rattle.burns.specs.Run.{Tally}
 use Rattle.erasure.specs.declared.Answer.{Answer}
 use Rattle.erasure.specs.declared.Answer.TheVariants.{Ended, Cut, Refused as NotErased}
-use Rattle.erasure.specs.Erasure.{never, run_on, answer_by, erase_of, uncut_of, is_cut}
+use Rattle.erasure.specs.Erasure.{never, run_on, answer_by, unburned, erase_tests, burning, erase_of, uncut_of, is_cut}
 use Rattle.erasure.specs.Cuts.{uncut_judged}
 use Rattle.codec.specs.declared.Command.TheVariants.{Fers}
 use Rattle.codec.specs.Fields.{code_of, response_fields, length_of, response_of, response_in}
@@ -23,13 +23,11 @@ use Rattle.codec.specs.Request.{request_tests}
 use Rattle.codec.specs.Laws.{response_long}
 use Rattle.mailbox.specs.declared.effects.Effect.{Effect}
 use Rattle.mailbox.specs.declared.Reply.TheVariants.{Refused, Accepted as Accepted'}
+use Rattle.mailbox.specs.Laws.{fers_context}
 use Rattle.mailbox.specs.Mailbox.{refused, fers_of, partition_in, accepted, mailbox_tests, done_of, context_after, response_after, reply_of, Lent, lent, written_out}
-use Rattle.restart.specs.declared.Answer.{Answer as RestartAnswer}
-use Rattle.restart.specs.Restart.{Lent as Kept, lent as keeping}
-use Rattle.restart.specs.Laws.{restart_elim}
 use Rattle.history.specs.Calls.{Call, Direct, Erase, EraseCut, Mailbox, TakeReply, MakeTable, Restart, Told, Replying, length_in, replying, told, refusal, after}
 use Rattle.history.specs.Demand3.{Attempt, with_buffers, SameLengths, numberless, compared}
-use Rattle.history.specs.Kept.{erase_spares, fers_spares, restart_spares, emptied_table}
+use Rattle.history.specs.Kept.{erase_leaves, emptied_table}
 use Rattle.history.specs.Forms.{Does, Quiet, quiet, arrays_same, places_same, busy_same, table_same, Ready, whole_at, Form, refuses, runs, erase_form, cut_uncut}
 
 -- ---- FERS, on the partition p that its request names
@@ -49,17 +47,17 @@ shown e response = ap (Replying (reply_of e)) (by (eqb e.refusal 0))
     by false = refl
 
 -- past the tests it is refused with 15 or not at all
-fers_late : (image : List ℕ) (i : ℕ) (t : Tally) (end : End) → refusal (effect_tells (fers_of i (answer_by end image i t))) ≤ 6
-    → 1 ≤ refusal (effect_tells (fers_of i (answer_by end image i t))) → ⊥
+fers_late : (image : List ℕ) (i : ℕ) (t : Tally) (end : End) → refusal (effect_tells (fers_of (answer_by end image i t))) ≤ 6
+    → 1 ≤ refusal (effect_tells (fers_of (answer_by end image i t))) → ⊥
 fers_late image i t Whole l m = omega arith
 fers_late image i t Stopped l m = omega arith
 fers_late image i t CutEnd l m = omega arith
 
 -- its number is not compared
-fers_compared : (i : ℕ) (answer : Answer) → compared (effect_tells (fers_of i answer)) ≡ compared (effect_tells (fers_of i (numberless answer)))
-fers_compared i (Ended short first burns new) = refl
-fers_compared i (Cut burns new) = refl
-fers_compared i (NotErased number burns) = refl
+fers_compared : (answer : Answer) → compared (effect_tells (fers_of answer)) ≡ compared (effect_tells (fers_of (numberless answer)))
+fers_compared (Ended short first burns new) = refl
+fers_compared (Cut burns new) = refl
+fers_compared (NotErased number burns) = refl
 
 refused_tells : (n : ℕ) → eqb n 0 ≡ false → (l : Lent) (request cells : List ℕ) → (replying (written_out request l (outcome (refused n) cells))).told ≡ Replying (Refused n) []
 refused_tells n o l request cells = rw o
@@ -103,10 +101,10 @@ module _ (image marks : List ℕ) (start : State) (request response block : List
         fers_told (by_fers ∙ any_refuses (refusing refused s.cells) (erased s) fers_tests y) (refused_tells (number_of fers_tests) o (lent s response' block') request s.cells)
 
     fers_runs : any_applies fers_tests ≡ false
-        → let o = uncut_of image s.cells marks p in Does image marks (with_buffers call response' block') s (effect_tells (fers_of p o.told)) o.after
+        → let o = uncut_of image s.cells marks p in Does image marks (with_buffers call response' block') s (effect_tells (fers_of o.told)) o.after
     fers_runs o =
         fers_told (by_fers ∙ (none_accepts (refusing refused s.cells) (erased s) fers_tests o).is)
-        (shown (fers_of p (uncut_of image s.cells marks p).told) response')
+        (shown (fers_of (uncut_of image s.cells marks p).told) response')
 
   -- a request that passes the tests names the partition, since what refuses it then is 15
   fers_named : (i : ℕ) (s : State) → Quiet start s → any_applies fers_tests ≡ false → Attempt image marks i call s → p ≡ i
@@ -130,14 +128,14 @@ module _ (image marks : List ℕ) (start : State) (request response block : List
       let none = (none_accepts (λ n. n) 0 fers_tests o).none in
       let ready : Ready image marks p start = record { good = not-false _ (none 0); arrays = not-false _ (none 1); partition = leb-false _ _ (none 7); may = not-false _ (none 8) } in
       subst (λ (j : ℕ). Form image marks j start call) (fers_named i s q o a)
-      (runs never 0 (λ answer. effect_tells (fers_of p answer)) ready (fers_compared p) (λ t. refl) (λ s q u e. uncut_judged image s.cells p (whole_at image marks p start ready s q) ready.partition marks 0 e)
+      (runs never 0 (λ answer. effect_tells (fers_of answer)) ready fers_compared (λ t. refl) (λ s q u e. uncut_judged image s.cells p (whole_at image marks p start ready s q) ready.partition marks 0 e)
       (λ s q response' block' l. fers_runs s q response' block' l o)))
       (decided (any_applies fers_tests))
 
 -- ---- every attempt
 
 pub form : (image marks : List ℕ) (i : ℕ) (start : State) (call : Call) (s : State) → Quiet start s → Attempt image marks i call s → Form image marks i start call
-form image marks i start (Direct buffer command) s q a = absurd a
+form image marks i start (Direct command) s q a = absurd a
 form image marks i start (Erase j) s q a =
     subst (λ (j : ℕ). Form image marks i start (Erase j)) (sym a)
     (erase_form image marks i start never 0 (Erase i) (λ s response block. (refl, refl))
@@ -153,7 +151,7 @@ form image marks i start (Mailbox code request response block) s q a = by code a
         (fers_form image marks start request response block i s q (subst (λ (code : ℕ). Attempt image marks i (Mailbox code request response block) s) e a))
 form image marks i start (TakeReply reply) s q a = absurd a
 form image marks i start (MakeTable handles algorithms) s q a = absurd a
-form image marks i start (Restart buffer) s q a = absurd a
+form image marks i start Restart s q a = absurd a
 
 -- each leaves all places empty, no reply awaited, and the table
 pub record Rested (before context : List ℕ) : Type 0 where
@@ -162,12 +160,12 @@ pub record Rested (before context : List ℕ) : Type 0 where
 
 rest_erased : (image marks : List ℕ) (i k mask : ℕ) (s : State) → AtRest (cache_of s.context)
     → Rested s.context (erase_of image marks i k mask s).after.context
-rest_erased image marks i k mask s h = let p = erase_spares image marks s i k mask in record { rest = rw p.cache h; table = p.table }
+rest_erased image marks i k mask s h = subst (Rested s.context) (sym (erase_leaves image marks s i k mask)) (record { rest = h; table = refl })
 
 pub rest_after : (image marks : List ℕ) (i : ℕ) (call : Call) (s : State) → Attempt image marks i call s → AtRest (cache_of s.context)
     → Rested s.context (after image marks call s).context
 unfolding done_of
-rest_after image marks i (Direct buffer command) s a h = absurd a
+rest_after image marks i (Direct command) s a h = absurd a
 rest_after image marks i (Erase j) s a h = rest_erased image marks j never 0 s h
 rest_after image marks i (EraseCut j k mask) s a h =
     let o = erase_of image marks j k mask s in
@@ -182,18 +180,7 @@ rest_after image marks i (Mailbox code request response block) s a h = by code a
         (first_elim (λ (d : Outcome Effect (List ℕ)). Rested s.context (context_after d.told s.context))
         (refusing refused s.cells) (mailbox_tests image marks (code_of Fers) request (length response) (length block) s) (accepted Fers image marks request s)
         (λ n _. record { rest = h; table = refl })
-        (λ none.
-        let p = fers_spares (partition_in request) (uncut_of image s.cells marks (partition_in request)).told s.context in
-        record { rest = rw p.cache h; table = p.table }))
+        (λ none. rw (fers_context (uncut_of image s.cells marks (partition_in request)).told s.context) (record { rest = h; table = refl })))
 rest_after image marks i (TakeReply reply) s a h = absurd a
 rest_after image marks i (MakeTable handles algorithms) s a h = absurd a
-rest_after image marks i (Restart buffer) s a h = absurd a
-
--- and so does a restart, refused or not
-pub rest_restarted : (image marks buffer : List ℕ) (s : State) → AtRest (cache_of s.context) → Rested s.context (after image marks (Restart buffer) s).context
-rest_restarted image marks buffer s h =
-    restart_elim image s.cells marks (keeping s.context buffer) (λ (o : Outcome RestartAnswer Kept). Rested s.context o.after.context)
-    (λ n _. record { rest = h; table = refl })
-    (λ _.
-    let p = restart_spares image s.cells s.context in
-    record { rest = rw p.cache (emptied_rest s.context); table = p.table ∙ emptied_table s.context })
+rest_after image marks i Restart s a h = absurd a

@@ -1,7 +1,7 @@
 -- The calls of all entry points, what each tells its caller, and what it leaves for the next one, by the definitions that the entry
 -- points' contracts equal. Assumes nothing.
 use Rattle.std.specs.Prelude.{ℕ, Bool, List, [], ◌∷◌, take}
-use Rattle.context.specs.State.{State, with_context, Outcome, outcome, telling, on_context}
+use Rattle.context.specs.State.{State, Outcome, outcome, telling, on_context}
 use Rattle.cache.specs.Cache.{cache_of, has_place}
 use Rattle.cache.specs.declared.Sought.TheVariants.{Occupied}
 use Rattle.handles.specs.declared.Answer.{Answer as TableAnswer}
@@ -13,10 +13,7 @@ use Rattle.direct.specs.declared.Answer.TheVariants.{Word, Burned, Done, Withhel
 use Rattle.direct.specs.Direct.{direct_of}
 use Rattle.erasure.specs.declared.Answer.{Answer as Erasure}
 use Rattle.erasure.specs.declared.Answer.TheVariants.{Ended, Cut, Refused as RefusedErasure}
-use Rattle.erasure.specs.Erasure.{erasure_of, cut_erasure_of}
-use Rattle.restart.specs.declared.Answer.{Answer as RestartAnswer}
-use Rattle.restart.specs.declared.Answer.TheVariants.{Restarted, Refused as NotRestarted}
-use Rattle.restart.specs.Restart.{Lent as Kept, lent as keeping, restart_of}
+use Rattle.erasure.specs.Erasure.{erasure_of, cut_erasure_of, restarted}
 use Rattle.mailbox.specs.declared.Reply.{Reply}
 use Rattle.mailbox.specs.declared.Reply.TheVariants.{Refused, Accepted}
 use Rattle.mailbox.specs.Mailbox.{Lent, lent, mailbox_of}
@@ -31,26 +28,25 @@ use Rattle.reply.specs.Reply.{taking_of}
 abbrev pub occupied : State → Bool
 occupied s = has_place (cache_of s.context) Occupied
 
--- a call of an entry point, with everything that it is lent besides the drive and the context: a direct command and a restart are lent a
--- buffer (request P9), each any one
+-- a call of an entry point, with everything that it is lent besides the drive and the context
 pub data Call : Type 0 where
-  Direct : (buffer : List ℕ) → Command → Call
+  Direct : Command → Call
   Erase : (i : ℕ) → Call
   EraseCut : (i k mask : ℕ) → Call
   Mailbox : (code : ℕ) (request response block : List ℕ) → Call
   TakeReply : EngineReply → Call
   MakeTable : (handles algorithms : List ℕ) → Call
-  Restart : (buffer : List ℕ) → Call
+  Restart : Call
 
 -- what it tells: a direct command's answer, an erasure's, the mailbox's reply with the bytes of the response, what came of the engine's
--- reply or of a table, or of a restart, with the cells of the buffer
+-- reply or of a table, or nothing
 pub data Told : Type 0 where
   Answering : Answer → Told
   Erasing : Erasure → Told
   Replying : Reply → (response : List ℕ) → Told
   Taking : ReplyAnswer → Told
   Making : TableAnswer → Told
-  Restarting : RestartAnswer → (buffer : List ℕ) → Told
+  Silent : Told
 
 -- the bytes of a response
 abbrev pub length_in : Reply → ℕ
@@ -66,19 +62,15 @@ order_in (Accepted length order) = order
 abbrev pub replying : Outcome Reply Lent → Outcome Told State
 replying o = outcome (Replying o.told (take (length_in o.told) o.after.response)) o.after.state
 
--- a restart tells its answer and the buffer
-abbrev pub restarting : State → Outcome RestartAnswer Kept → Outcome Told State
-restarting s o = outcome (Restarting o.told o.after.buffer) (with_context o.after.context s)
-
 -- what a call tells and leaves
 abbrev pub outcome_of : (image marks : List ℕ) → Call → State → Outcome Told State
-outcome_of image marks (Direct buffer command) s = telling Answering (direct_of image marks buffer command s)
+outcome_of image marks (Direct command) s = telling Answering (direct_of image marks command s)
 outcome_of image marks (Erase i) s = telling Erasing (erasure_of image marks i s)
 outcome_of image marks (EraseCut i k mask) s = telling Erasing (cut_erasure_of image marks i k mask s)
 outcome_of image marks (Mailbox code request response block) s = replying (mailbox_of image marks code request (lent s response block))
 outcome_of image marks (TakeReply reply) s = telling Taking (on_context s (taking_of reply s.context))
 outcome_of image marks (MakeTable handles algorithms) s = telling Making (on_context s (making_of handles algorithms s.context))
-outcome_of image marks (Restart buffer) s = restarting s (restart_of image s.cells marks (keeping s.context buffer))
+outcome_of image marks Restart s = outcome Silent (restarted s)
 
 -- its two halves
 abbrev pub told : (image marks : List ℕ) → Call → State → Told
@@ -103,8 +95,7 @@ refusal (Taking Taken) = 0
 refusal (Taking (NotTaken number)) = number
 refusal (Making Made) = 0
 refusal (Making (NotMade number)) = number
-refusal (Restarting Restarted buffer) = 0
-refusal (Restarting (NotRestarted number) buffer) = number
+refusal Silent = 0
 
 -- "each call gets the cells and cache that the one before left, refused or not"
 abbrev pub after_all : (image marks : List ℕ) → List Call → State → State

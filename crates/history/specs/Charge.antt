@@ -1,9 +1,9 @@
 -- Request P8: "Over any number of cut and uncut attempts the sum equals set fuses after minus set fuses before". First the claim, over every
 -- list of calls of every entry point, demand 3's histories of attempts and restarts among them; then its proof. Cells and marks are any
 -- numbers. Assumes nothing.
-use Rattle.std.specs.Prelude.{ℕ, ◌+◌, ◌≡◌, refl, Bool, false, cond, List, [], ◌∷◌, eqb, length}
+use Rattle.std.specs.Prelude.{ℕ, ◌+◌, ◌≡◌, Bool, false, cond, List, [], ◌∷◌, eqb, length}
+use Rattle.std.proofs.Math.Path.{refl, subst}
 use Rattle.std.proofs.Common.{sym, ap, ◌∙◌, ⊎_elim, eqb-true, eq-eqb, ne_eqb, leb-false}
-use Rattle.std.proofs.Math.Path.{subst}
 use Rattle.std.proofs.Math.Bool.{true}
 use Rattle.std.proofs.lemmas.Bool.{false≢true}
 use native.Mathlib.Omega.{arith}
@@ -25,7 +25,7 @@ use Rattle.direct.specs.declared.Command.TheVariants.{Read, Write, Zeroize}
 use Rattle.direct.specs.declared.Answer.{Answer}
 use Rattle.direct.specs.declared.Answer.TheVariants.{Word as Shown, Burned, Done, Withheld, Refused as RefusedDirect}
 use Rattle.direct.specs.Direct.{cell_of, direct_tests, cells_after, new_after, carried_out, direct_of}
-use Rattle.direct.specs.Laws.{direct_at, lacks_word}
+use Rattle.direct.specs.Laws.{direct_at}
 use Rattle.erasure.specs.Erasure.{never, run_on, answer_by, told_new, erasure_of, cut_erasure_of}
 use Rattle.erasure.specs.Cuts.{whole_by, uncut_judged}
 use Rattle.erasure.specs.Charge.{ran_charge, erase_charge}
@@ -54,12 +54,12 @@ abbrev new_by : Lookup → Command → (marks cells : List ℕ) → ℕ
 new_by NoWord command marks cells = 0
 new_by (Word i role wide) command marks cells = new_after command wide marks cells
 
-abbrev report_by : Lookup → (image marks buffer : List ℕ) → Command → State → ℕ
-report_by found image marks buffer command s = first_of (λ _. 0) (direct_tests found command image marks buffer s) (new_by found command marks s.cells)
+abbrev report_by : Lookup → (image marks : List ℕ) → Command → State → ℕ
+report_by found image marks command s = first_of (λ _. 0) (direct_tests found command image marks s) (new_by found command marks s.cells)
 
 -- what a call reports: an erasure in its answer, cut ones included, FERS in its response; a restart, a reply and a table have nothing to report
 abbrev pub report_of : (image marks : List ℕ) → Call → State → ℕ
-report_of image marks (Direct buffer command) s = report_by (word_at image (cell_of command)) image marks buffer command s
+report_of image marks (Direct command) s = report_by (word_at image (cell_of command)) image marks command s
 report_of image marks (Erase i) s = told_new (erasure_of image marks i s).told
 report_of image marks (EraseCut i k mask) s = told_new (cut_erasure_of image marks i k mask s).told
 report_of image marks (Mailbox code request response block) s =
@@ -67,7 +67,7 @@ report_of image marks (Mailbox code request response block) s =
     report_in code o.told o.after.response
 report_of image marks (TakeReply reply) s = 0
 report_of image marks (MakeTable handles algorithms) s = 0
-report_of image marks (Restart buffer) s = 0
+report_of image marks Restart s = 0
 
 -- the sum, each call made on what the one before left
 abbrev pub sum_of : (image marks : List ℕ) → List Call → State → ℕ
@@ -87,20 +87,20 @@ module _ (image marks : List ℕ) (s : State) where
   abbrev Grown : (cells : List ℕ) (new : ℕ) → Type 0
   Grown cells new = set_fuses cells ≡ set_fuses s.cells + new
 
-  carried_charge : (buffer : List ℕ) (found : Lookup) (command : Command) → Grown (carried_out found command image marks buffer s).after.cells (new_by found command marks s.cells)
+  carried_charge : (found : Lookup) (command : Command) → Grown (carried_out found command image marks s).after.cells (new_by found command marks s.cells)
   unfolding carried_out cells_after new_after
-  carried_charge buffer NoWord command = omega arith
-  carried_charge buffer (Word i role wide) (Read cell) = omega arith
-  carried_charge buffer (Word i role wide) (Write cell value) = burn_charge marks cell wide value s.cells
-  carried_charge buffer (Word i role wide) (Zeroize cell) = burn_charge marks cell wide all_ones s.cells
+  carried_charge NoWord command = omega arith
+  carried_charge (Word i role wide) (Read cell) = omega arith
+  carried_charge (Word i role wide) (Write cell value) = burn_charge marks cell wide value s.cells
+  carried_charge (Word i role wide) (Zeroize cell) = burn_charge marks cell wide all_ones s.cells
 
-  direct_charge : (buffer : List ℕ) (command : Command) → Grown (direct_of image marks buffer command s).after.cells (report_of image marks (Direct buffer command) s)
-  direct_charge buffer command =
+  direct_charge : (command : Command) → Grown (direct_of image marks command s).after.cells (report_of image marks (Direct command) s)
+  direct_charge command =
       let found = word_at image (cell_of command) in
-      subst (λ (o : Outcome Answer State). Grown o.after.cells (report_by found image marks buffer command s)) (sym (direct_at image marks buffer command s refl))
+      subst (λ (o : Outcome Answer State). Grown o.after.cells (report_by found image marks command s)) (sym (direct_at image marks command s refl))
       (first_both (λ (o : Outcome Answer State) (new : ℕ). Grown o.after.cells new) (refusing RefusedDirect s) (λ _. 0)
-      (direct_tests found command image marks buffer s) (carried_out found command image marks buffer s) (new_by found command marks s.cells)
-      (λ n _. omega arith) (λ none. carried_charge buffer found command))
+      (direct_tests found command image marks s) (carried_out found command image marks s) (new_by found command marks s.cells)
+      (λ n _. omega arith) (λ none. carried_charge found command))
 
   -- ---- the mailbox
 
@@ -110,8 +110,8 @@ module _ (image marks : List ℕ) (s : State) where
 
     -- FERS, by how its run ended; it is not cut
     fers_charge : (end : End) → (end ≡ CutEnd → ⊥) → (t : Tally) → let p = partition_in request in
-        Grown t.cells (told_new (answer_by end image p t)) → Reports (code_of Fers) (outcome (fers_of p (answer_by end image p t)) t.cells)
-    fers_charge Whole u t h = h ∙ ap (λ (new : ℕ). set_fuses s.cells + new) (sym (ended_reads (partition_in request) _ _ t.burns t.new response).2)
+        Grown t.cells (told_new (answer_by end image p t)) → Reports (code_of Fers) (outcome (fers_of (answer_by end image p t)) t.cells)
+    fers_charge Whole u t h = h ∙ ap (λ (new : ℕ). set_fuses s.cells + new) (sym (ended_reads _ _ t.burns t.new response).2)
     fers_charge Stopped u t h = h
     fers_charge CutEnd u t h = absurd (u refl)
 
@@ -152,13 +152,13 @@ module _ (image marks : List ℕ) (s : State) where
   -- ---- every call
 
   call_charge : (call : Call) → Grown (after image marks call s).cells (report_of image marks call s)
-  call_charge (Direct buffer command) = direct_charge buffer command
+  call_charge (Direct command) = direct_charge command
   call_charge (Erase i) = erase_charge image marks i never 0 s
   call_charge (EraseCut i k mask) = erase_charge image marks i k mask s
   call_charge (Mailbox code request response block) = mailbox_charge request response code (length block)
   call_charge (TakeReply reply) = omega arith
   call_charge (MakeTable handles algorithms) = omega arith
-  call_charge (Restart buffer) = omega arith
+  call_charge Restart = omega arith
 
 pub charge : Charge
 charge image marks [] s = omega arith
@@ -180,12 +180,12 @@ burns_word (Read cell) = false
 burns_word (Write cell value) = true
 burns_word (Zeroize cell) = true
 
-module _ (image marks buffer : List ℕ) (s : State) where
+module _ (image marks : List ℕ) (s : State) where
   -- an answer with a number tells this one
   abbrev Tells : Answer → (new : ℕ) → Type 0
   Tells answer new = tells_new answer ≡ true → new_in answer ≡ new
 
-  carried_tells : (found : Lookup) (command : Command) → Tells (carried_out found command image marks buffer s).told (new_by found command marks s.cells)
+  carried_tells : (found : Lookup) (command : Command) → Tells (carried_out found command image marks s).told (new_by found command marks s.cells)
   unfolding carried_out
   carried_tells NoWord command = λ y. absurd (false≢true y)
   carried_tells (Word i role wide) (Read cell) = λ y. absurd (false≢true y)
@@ -199,26 +199,26 @@ module _ (image marks buffer : List ℕ) (s : State) where
       (λ _ _. refl)
 
   -- it is what its burn reports; in a secret partition there is none (`Secrets` new-hidden)
-  pub direct_tells : (command : Command) → Tells (direct_of image marks buffer command s).told (report_of image marks (Direct buffer command) s)
+  pub direct_tells : (command : Command) → Tells (direct_of image marks command s).told (report_of image marks (Direct command) s)
   direct_tells command =
       let found = word_at image (cell_of command) in
-      subst (λ (o : Outcome Answer State). Tells o.told (report_by found image marks buffer command s)) (sym (direct_at image marks buffer command s refl))
+      subst (λ (o : Outcome Answer State). Tells o.told (report_by found image marks command s)) (sym (direct_at image marks command s refl))
       (first_both (λ (o : Outcome Answer State) (new : ℕ). Tells o.told new) (refusing RefusedDirect s) (λ _. 0)
-      (direct_tests found command image marks buffer s) (carried_out found command image marks buffer s) (new_by found command marks s.cells)
+      (direct_tests found command image marks s) (carried_out found command image marks s) (new_by found command marks s.cells)
       (λ n _ y. absurd (false≢true y)) (λ none. carried_tells found command))
 
   -- and outside secret partitions there is one: a WRITE or a ZEROIZE that is carried out tells it
   pub new_shown : (command : Command) {i : ℕ} {role : Role} {wide : Bool} → word_at image (cell_of command) ≡ Word i role wide → secret (entry_of image i) ≡ false
-      → burns_word command ≡ true → refusal (Answering (direct_of image marks buffer command s).told) ≡ 0 → tells_new (direct_of image marks buffer command s).told ≡ true
+      → burns_word command ≡ true → refusal (Answering (direct_of image marks command s).told) ≡ 0 → tells_new (direct_of image marks command s).told ≡ true
   unfolding carried_out
   new_shown command {i} {role} {wide} starts unsecret b =
-      subst (λ (o : Outcome Answer State). refusal (Answering o.told) ≡ 0 → tells_new o.told ≡ true) (sym (direct_at image marks buffer command s starts))
+      subst (λ (o : Outcome Answer State). refusal (Answering o.told) ≡ 0 → tells_new o.told ≡ true) (sym (direct_at image marks command s starts))
       (first_elim (λ (o : Outcome Answer State). refusal (Answering o.told) ≡ 0 → tells_new o.told ≡ true) (refusing RefusedDirect s)
-      (direct_tests (Word i role wide) command image marks buffer s) (carried_out (Word i role wide) command image marks buffer s)
-      (λ n a r. absurd (not_numbered 0 (direct_tests (Word i role wide) command image marks buffer s) (lacks_word 0 (Word i role wide) command image marks buffer s refl) a r))
+      (direct_tests (Word i role wide) command image marks s) (carried_out (Word i role wide) command image marks s)
+      (λ n a r. absurd (not_numbered 0 (direct_tests (Word i role wide) command image marks s) refl a r))
       (λ none _. by command b))
     where
-      by : (command : Command) → burns_word command ≡ true → tells_new (carried_out (Word i role wide) command image marks buffer s).told ≡ true
+      by : (command : Command) → burns_word command ≡ true → tells_new (carried_out (Word i role wide) command image marks s).told ≡ true
       by (Read cell) y = absurd (false≢true y)
       by (Write cell value) y = rw unsecret
       by (Zeroize cell) y = rw unsecret

@@ -17,14 +17,14 @@ use Rattle.codec.specs.declared.Command.TheVariants.{Fers}
 use Rattle.codec.specs.Fields.{code_of, Field, Chksum, NewFuses, same, response_fields, no_numbers, bytes_at, joined}
 use Rattle.mailbox.specs.Mailbox.{partition_in}
 use Rattle.history.specs.Calls.{Call, Direct, Erase, EraseCut, Mailbox, TakeReply, MakeTable, Restart}
-use Rattle.history.specs.Calls.{Told, Answering, Erasing, Replying, Taking, Making, Restarting, told, refusal, after, after_all}
+use Rattle.history.specs.Calls.{Told, Answering, Erasing, Replying, Taking, Making, Silent, told, refusal, after, after_all}
 
 -- ---- attempts and histories
 
 module _ (image marks : List ℕ) where
   -- "Attempts on a partition are its erasure, its cut erasure with any k and mask, FERS naming it, and FERS refused by a number up to 6"
   abbrev pub Attempt : (i : ℕ) → Call → State → Type 0
-  Attempt i (Direct buffer command) s = ⊥
+  Attempt i (Direct command) s = ⊥
   Attempt i (Erase j) s = j ≡ i
   Attempt i (EraseCut j k mask) s = j ≡ i
   Attempt i (Mailbox code request response block) s =
@@ -32,18 +32,18 @@ module _ (image marks : List ℕ) where
       (code ≡ code_of Fers) × ((partition_in request ≡ i) ⊎ ((1 ≤ number) × (number ≤ 6)))
   Attempt i (TakeReply reply) s = ⊥
   Attempt i (MakeTable handles algorithms) s = ⊥
-  Attempt i (Restart buffer) s = ⊥
+  Attempt i Restart s = ⊥
 
   -- "A cut erasure that is refused, or whose order ends before burn k, is uncut"; and so is every call that names no cut
   abbrev pub Uncut : Call → State → Type 0
-  Uncut (Direct buffer command) s = Unit {0}
+  Uncut (Direct command) s = Unit {0}
   Uncut (Erase j) s = Unit {0}
   Uncut (EraseCut j k mask) s =
       (1 ≤ refusal (told image marks (EraseCut j k mask) s)) ⊎ (length (order (software (entry_of image j)) (entry_of image j).n) ≤ k)
   Uncut (Mailbox code request response block) s = Unit {0}
   Uncut (TakeReply reply) s = Unit {0}
   Uncut (MakeTable handles algorithms) s = Unit {0}
-  Uncut (Restart buffer) s = Unit {0}
+  Uncut Restart s = Unit {0}
 
   -- "an accepted attempt runs uncut to its end"
   pub record Accepted (i : ℕ) (call : Call) (s : State) : Type 0 where
@@ -51,15 +51,11 @@ module _ (image marks : List ℕ) where
     pub uncut : Uncut call s
     pub accepted : refusal (told image marks call s) ≡ 0
 
-  -- a restart, lent any buffer; since request P9 it may be refused
-  abbrev pub IsRestart : Call → Type 0
-  IsRestart call = (buffer : List ℕ) × (call ≡ Restart buffer)
-
   -- "Ask for the erasure of one partition as often as you like, and for nothing else but restarts"; "each call gets the cells and cache
   -- that the one before left, refused or not"
   abbrev pub History : (i : ℕ) → List Call → State → Type 0
   History i [] s = Unit {0}
-  History i (call ∷ calls) s = (Attempt i call s ⊎ IsRestart call) × History i calls (after image marks call s)
+  History i (call ∷ calls) s = (Attempt i call s ⊎ (call ≡ Restart)) × History i calls (after image marks call s)
 
   -- an accepted attempt of the history has run uncut to its end
   abbrev pub Finished : (i : ℕ) → List Call → State → Type 0
@@ -70,23 +66,23 @@ module _ (image marks : List ℕ) where
 
 -- with other buffers
 abbrev pub with_buffers : Call → (response block : List ℕ) → Call
-with_buffers (Direct buffer command) response' block' = Direct buffer command
+with_buffers (Direct command) response' block' = Direct command
 with_buffers (Erase i) response' block' = Erase i
 with_buffers (EraseCut i k mask) response' block' = EraseCut i k mask
 with_buffers (Mailbox code request response block) response' block' = Mailbox code request response' block'
 with_buffers (TakeReply reply) response' block' = TakeReply reply
 with_buffers (MakeTable handles algorithms) response' block' = MakeTable handles algorithms
-with_buffers (Restart buffer) response' block' = Restart buffer
+with_buffers Restart response' block' = Restart
 
 -- of the same lengths
 abbrev pub SameLengths : Call → (response block : List ℕ) → Type 0
-SameLengths (Direct buffer command) response' block' = Unit {0}
+SameLengths (Direct command) response' block' = Unit {0}
 SameLengths (Erase i) response' block' = Unit {0}
 SameLengths (EraseCut i k mask) response' block' = Unit {0}
 SameLengths (Mailbox code request response block) response' block' = (length response' ≡ length response) × (length block' ≡ length block)
 SameLengths (TakeReply reply) response' block' = Unit {0}
 SameLengths (MakeTable handles algorithms) response' block' = Unit {0}
-SameLengths (Restart buffer) response' block' = Unit {0}
+SameLengths Restart response' block' = Unit {0}
 
 -- "the same call, same request and buffer lengths, made alone from the starting cells and an empty cache", and as request P5 says of the
 -- start, with no reply awaited; since request P6 also from the starting table, since 2 depends on it
@@ -130,7 +126,7 @@ compared (Erasing answer) = Erasing (numberless answer)
 compared (Replying reply response) = Replying reply (compared_bytes response)
 compared (Taking answer) = Taking answer
 compared (Making answer) = Making answer
-compared (Restarting answer buffer) = Restarting answer buffer
+compared Silent = Silent
 
 -- ---- the claim
 

@@ -9,6 +9,7 @@ use Rattle.context.specs.State.{State}
 use Rattle.map.specs.Map.{header_of, entry_of, end_of, zeroizable, map_good}
 use Rattle.fuse.specs.Fuse.{free}
 use Rattle.drive.specs.Drive.{whole_arrays, marked_at}
+use Rattle.cache.specs.Laws.{emptied_rest}
 use Rattle.burns.specs.Cells.{full}
 use Rattle.burns.specs.Run.{goes_on}
 use Rattle.burns.specs.Stops.{on_marked}
@@ -16,11 +17,11 @@ use Rattle.burns.specs.Safe.{Untouched}
 use Rattle.erasure.specs.Laws.{part_long}
 use Rattle.erasure.specs.Parts.{Outside, array_at}
 use Rattle.history.specs.Calls.{Call, Restart, after, after_all}
-use Rattle.history.specs.Demand3.{Attempt, Accepted, History, Finished, InPartition, InIndicator, Demand3, IsRestart}
+use Rattle.history.specs.Demand3.{Attempt, Accepted, History, Finished, InPartition, InIndicator, Demand3}
+use Rattle.history.specs.Kept.{emptied_table}
 use Rattle.history.specs.Forms.{Ready}
 use Rattle.history.specs.Reached.{part, Reached, reached_start, reached_same, there, Filled, reached_attempt, filled_attempt, erased_attempt}
 use Rattle.history.specs.Reached.{refused_attempt, alone_answer, alone_cells}
-use Rattle.history.specs.Attempts.{rest_restarted}
 
 module _ (image marks : List ℕ) (i : ℕ) (start : State) where
   abbrev cells : List ℕ
@@ -28,22 +29,21 @@ module _ (image marks : List ℕ) (i : ℕ) (start : State) where
 
   -- ---- every history
 
-  reached_restart : (buffer : List ℕ) (s : State) → Reached image marks i start s → Reached image marks i start (after image marks (Restart buffer) s)
-  reached_restart buffer s r =
-      reached_same image marks i start s (after image marks (Restart buffer) s) r refl (rest_restarted image marks buffer s r.quiet.rest)
+  reached_restart : (s : State) → Reached image marks i start s → Reached image marks i start (after image marks Restart s)
+  reached_restart s r = reached_same image marks i start s (after image marks Restart s) r refl (record { rest = emptied_rest _; table = emptied_table _ })
 
-  reached_call : (call : Call) (s : State) → Reached image marks i start s → Attempt image marks i call s ⊎ IsRestart image marks call → Reached image marks i start (after image marks call s)
+  reached_call : (call : Call) (s : State) → Reached image marks i start s → Attempt image marks i call s ⊎ (call ≡ Restart) → Reached image marks i start (after image marks call s)
   reached_call call s r (inl a) = reached_attempt image marks i start call s r a
-  reached_call call s r (inr e) = rw e.1 (reached_restart e.0 s r)
+  reached_call call s r (inr e) = rw e (reached_restart s r)
 
   reached_all : (calls : List Call) (s : State) → Reached image marks i start s → History image marks i calls s → Reached image marks i start (after_all image marks calls s)
   reached_all [] s r h = r
   reached_all (call ∷ calls) s r h = reached_all calls (after image marks call s) (reached_call call s r h.0) h.1
 
-  filled_call : (call : Call) (s : State) → Reached image marks i start s → Attempt image marks i call s ⊎ IsRestart image marks call
+  filled_call : (call : Call) (s : State) → Reached image marks i start s → Attempt image marks i call s ⊎ (call ≡ Restart)
       → Filled image marks i start s.cells → Filled image marks i start (after image marks call s).cells
   filled_call call s r (inl a) f = filled_attempt image marks i start call s r a f
-  filled_call call s r (inr e) f = rw e.1 f
+  filled_call call s r (inr e) f = rw e f
 
   filled_all : (calls : List Call) (s : State) → Reached image marks i start s → History image marks i calls s
       → Filled image marks i start s.cells ⊎ Finished image marks i calls s → Filled image marks i start (after_all image marks calls s).cells

@@ -24,20 +24,20 @@ use Rattle.mailbox.specs.Laws.{fers_or_plain}
 use Rattle.mailbox.specs.Told.{mailbox_elim}
 use Rattle.mailbox.specs.Mailbox.{refused, fers_of, partition_in, accepted, done_of, reply_of}
 use Rattle.history.specs.Calls.{Call, Direct, Erase, EraseCut, Mailbox, TakeReply, MakeTable, Restart, Erasing, Replying, told, refusal}
-use Rattle.history.specs.Refused.{reply_number, direct_stays, reply_stays, making_stays, restart_stays}
+use Rattle.history.specs.Refused.{reply_number, direct_stays, reply_stays, making_stays}
 
 -- ---- the claim
 
 -- a call that asks for the erasure of partition i and, where nothing refuses it before, burns its indicator whole; one that is cut in that
 -- burn is told as cut
 abbrev pub BurnsIndicator : Call → (i : ℕ) → Type 0
-BurnsIndicator (Direct buffer command) i = ⊥
+BurnsIndicator (Direct command) i = ⊥
 BurnsIndicator (Erase j) i = j ≡ i
 BurnsIndicator (EraseCut j k mask) i = (j ≡ i) × (1 ≤ k)
 BurnsIndicator (Mailbox code request response block) i = (code ≡ code_of Fers) × (partition_in request ≡ i)
 BurnsIndicator (TakeReply reply) i = ⊥
 BurnsIndicator (MakeTable handles algorithms) i = ⊥
-BurnsIndicator (Restart buffer) i = ⊥
+BurnsIndicator Restart i = ⊥
 
 -- no other number is given
 abbrev pub NoOther : (number : ℕ) → Type 0
@@ -96,8 +96,8 @@ module _ (image marks : List ℕ) (s : State) where
   number d = refusal (Replying (reply_of d.told) [])
 
   fers_exactly : (p : ℕ) (end : End) → (end ≡ CutEnd → ⊥) → (t : Tally) (cells : List ℕ) → Exactly p (answer_by end image p t)
-      → NoOther (number (outcome (fers_of p (answer_by end image p t)) cells))
-      → (number (outcome (fers_of p (answer_by end image p t)) cells) ≡ 15) ↔ NoneSet image s.cells marks p
+      → NoOther (number (outcome (fers_of (answer_by end image p t)) cells))
+      → (number (outcome (fers_of (answer_by end image p t)) cells) ≡ 15) ↔ NoneSet image s.cells marks p
   fers_exactly p Whole u t cells h o = h o
   fers_exactly p Stopped u t cells h o = h o
   fers_exactly p CutEnd u t cells h o = absurd (u refl)
@@ -127,9 +127,9 @@ module _ (image marks : List ℕ) (s : State) where
 -- ---- every call
 
 pub fifteen : (image marks : List ℕ) (s : State) (call : Call) → Fifteen image marks call s
-fifteen image marks s (Direct buffer command) = record {
+fifteen image marks s (Direct command) = record {
   exactly = λ i e. absurd e;
-  only = λ z. absurd ((direct_stays image marks s buffer command (omega arith)).1 z);
+  only = λ z. absurd ((direct_stays image marks s command (omega arith)).1 z);
 }
 fifteen image marks s (Erase j) = record {
   exactly = λ i e. rw (← e) (erase_exactly image marks s j never 0 (omega arith));
@@ -151,7 +151,4 @@ fifteen image marks s (MakeTable handles algorithms) = record {
   exactly = λ i e. absurd e;
   only = λ z. absurd ((making_stays image marks s handles algorithms (omega arith)).1 z);
 }
-fifteen image marks s (Restart buffer) = record {
-  exactly = λ i e. absurd e;
-  only = λ z. absurd ((restart_stays image marks s buffer (omega arith)).1 z);
-}
+fifteen image marks s Restart = record { exactly = λ i e. absurd e; only = λ z. absurd (omega arith) }

@@ -32,13 +32,13 @@ record Own (call : Call) : Type 0 where
   is : with_buffers call response block ≡ call
 
 own : (call : Call) → Own call
-own (Direct buffer command) = record { response = []; block = []; same = tt; is = refl }
+own (Direct command) = record { response = []; block = []; same = tt; is = refl }
 own (Erase i) = record { response = []; block = []; same = tt; is = refl }
 own (EraseCut i k mask) = record { response = []; block = []; same = tt; is = refl }
 own (Mailbox code request response block) = record { response = response; block = block; same = (refl, refl); is = refl }
 own (TakeReply reply) = record { response = []; block = []; same = tt; is = refl }
 own (MakeTable handles algorithms) = record { response = []; block = []; same = tt; is = refl }
-own (Restart buffer) = record { response = []; block = []; same = tt; is = refl }
+own Restart = record { response = []; block = []; same = tt; is = refl }
 
 -- a call tells t and leaves the cells c
 abbrev pub Does : (image marks : List ℕ) → Call → State → Told → (c : List ℕ) → Type 0

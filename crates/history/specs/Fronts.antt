@@ -1,10 +1,10 @@
 -- "after each of them": every front part of a history is a history, so that demand 3 holds after each call of it, and each of its calls
 -- was an attempt, or a restart, where it was made. Assumes nothing.
-use Rattle.std.specs.Prelude.{ℕ, ◌⊎◌, List, [], ◌∷◌, ◌++◌}
+use Rattle.std.specs.Prelude.{ℕ, ◌≡◌, ◌⊎◌, List, [], ◌∷◌, ◌++◌}
 use Rattle.context.specs.State.{State}
 use Rattle.cache.specs.Cache.{cache_of, AtRest}
-use Rattle.history.specs.Calls.{Call, after, after_all}
-use Rattle.history.specs.Demand3.{Attempt, IsRestart, History, Claim}
+use Rattle.history.specs.Calls.{Call, Restart, after, after_all}
+use Rattle.history.specs.Demand3.{Attempt, History, Claim}
 use Rattle.history.specs.Demand3Proof.{demand_3}
 
 module _ (image marks : List ℕ) (i : ℕ) where
@@ -14,7 +14,7 @@ module _ (image marks : List ℕ) (i : ℕ) where
 
   -- the call that follows a front part, from the state that the front part left
   pub next : (calls : List Call) (call : Call) (rest : List Call) (s : State) → History image marks i (calls ++ (call ∷ rest)) s
-      → Attempt image marks i call (after_all image marks calls s) ⊎ IsRestart image marks call
+      → Attempt image marks i call (after_all image marks calls s) ⊎ (call ≡ Restart)
   next [] call rest s h = h.0
   next (first ∷ calls) call rest s h = next calls call rest (after image marks first s) h.1
 

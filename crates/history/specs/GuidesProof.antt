@@ -1,15 +1,15 @@
 -- Request P7, the theorem of `Guides`: past the map's own check nothing but the word that a ZEROIZE answers reads flag 8. Assumes nothing.
 use Rattle.std.specs.Prelude.{ℕ, ◌+◌, ◌≡◌, Bool, true, false, cond, length}
-use Rattle.std.proofs.Math.Path.{refl, sym, ap}
-use Rattle.std.proofs.Common.{ap₂, ◌∙◌}
+use Rattle.std.proofs.Math.Path.{refl, ap}
+use Rattle.std.proofs.Common.{sym, ap₂, ◌∙◌}
 use Rattle.std.proofs.lemmas.Bool.{false≢true}
 use mathlib.Core.List.{List, [], ◌∷◌, ◌++◌}
 use Rattle.laws.specs.Below.{first_below, first_same}
-use Rattle.laws.specs.Refusals.{first_both}
-use Rattle.context.specs.State.{State, Outcome, outcome, refusing, telling, state}
+use Rattle.laws.specs.Refusals.{first_of, first_both}
+use Rattle.context.specs.State.{State, Outcome, outcome, refusing, telling, on_cells}
 use Rattle.map.specs.Map.{header_of, entry_of, secret, map_good}
 use Rattle.map.specs.Laws.{map_header}
-use Rattle.map.specs.Guides.{Differ8, SameBut8, same_header, same_entry, same_zeroizable, same_secret, same_slot, same_buffered}
+use Rattle.map.specs.Guides.{Differ8, SameBut8, same_header, same_entry, same_zeroizable, same_secret, same_slot}
 use Rattle.map.specs.declared.Header.{Header}
 use Rattle.map.specs.declared.Entry.{Entry}
 use Rattle.fuse.specs.Fuse.{short}
@@ -21,7 +21,7 @@ use Rattle.burns.specs.declared.End.{End}
 use Rattle.burns.specs.declared.End.TheVariants.{Whole, Stopped, Cut as CutEnd}
 use Rattle.burns.specs.Run.{Tally}
 use Rattle.erasure.specs.declared.Answer.{Answer as Erasure}
-use Rattle.erasure.specs.Erasure.{partition_tests, run_on, never, answer_by, ran_of, unburned, erase_of, after_cut, ran_in}
+use Rattle.erasure.specs.Erasure.{partition_tests, run_on, never, answer_by, ran_of, unburned, erase_of, after_cut}
 use Rattle.codec.specs.declared.Command.{Command as Code}
 use Rattle.codec.specs.declared.Command.TheVariants.{Clkc, Klod, Kunl, Fers, Fsta, Ehdl, Rhpk, Unknown}
 use Rattle.codec.specs.Fields.{command_of}
@@ -31,18 +31,19 @@ use Rattle.mailbox.specs.Mailbox.{Lent, lent, written_out, mailbox_of}
 use Rattle.direct.specs.declared.Command.{Command}
 use Rattle.direct.specs.declared.Command.TheVariants.{Read, Write, Zeroize}
 use Rattle.direct.specs.declared.Answer.{Answer}
-use Rattle.direct.specs.declared.Answer.TheVariants.{Word as Shown, Burned, Done, Withheld, Refused}
-use Rattle.direct.specs.Direct.{cell_of, word_of, forbidden, changes_slot, word_tests, lent_tests, direct_tests, cells_after, new_after, told_word}
-use Rattle.direct.specs.Direct.{answer_of, is_a_word, carried_out, direct_of}
-use Rattle.restart.specs.Restart.{lent as keeping}
+use Rattle.direct.specs.declared.Answer.TheVariants.{Word as Shown, Burned, Withheld, Refused}
+use Rattle.direct.specs.Direct.{cell_of, word_of, forbidden, changes_slot, word_tests, direct_tests, cells_after, new_after, told_word, answer_of, carried_out, direct_of}
 use Rattle.direct.specs.Laws.{direct_at}
-use Rattle.buffer.specs.Buffer.{skipping}
 use Rattle.history.specs.Calls.{Call, Direct, Erase, EraseCut, Mailbox, TakeReply, MakeTable, Restart, Told, Answering, Erasing}
-use Rattle.history.specs.Calls.{replying, restarting, outcome_of, told, after, after_all}
+use Rattle.history.specs.Calls.{replying, outcome_of, told, after, after_all}
 use Rattle.history.specs.Guides.{wordless, zeroizes, OnlyTheWord}
-use Rattle.history.specs.GuidesBuffers.{first_by, buffer_tests_lem, restart_same, check_same}
 
 -- ---- what reads no flag 8
+
+-- equal tests and equal accepted answers give the same
+first_by : {A : Type 0} (refuse : ℕ → A) {tests tests' : List (Bool × ℕ)} {accepted accepted' : A} → tests' ≡ tests → accepted' ≡ accepted
+    → first_of refuse tests' accepted' ≡ first_of refuse tests accepted
+first_by refuse p q = ap₂ (λ tests accepted. first_of refuse tests accepted) p q
 
 module _ (image other marks : List ℕ) (d : Differ8 image other) (good : map_good image ≡ true) (good' : map_good other ≡ true) where
   header : header_of other ≡ header_of image
@@ -109,29 +110,23 @@ module _ (image other marks : List ℕ) (d : Differ8 image other) (good : map_go
   word_tests_lem (Word i role wide) (Write cell value) s = rw ((entry i).kind, marked_same s.cells i, same_slot (entry i))
   word_tests_lem (Word i role wide) (Zeroize cell) s = rw (same_zeroizable (entry i), same_slot (entry i))
 
-  module _ (buffer : List ℕ) where
-    lent_tests_lem : (command : Command) (cells : List ℕ) → lent_tests command other cells marks buffer ≡ lent_tests command image cells marks buffer
-    lent_tests_lem (Read cell) cells = buffer_tests_lem image other marks good good' header entry cells buffer
-    lent_tests_lem (Write cell value) cells = drive_tests_lem cells
-    lent_tests_lem (Zeroize cell) cells = drive_tests_lem cells
+  direct_tests_lem : (found : Lookup) (command : Command) (s : State) → direct_tests found command other marks s ≡ direct_tests found command image marks s
+  direct_tests_lem found command s = ap₂ ◌++◌ (drive_tests_lem s.cells) (word_tests_lem found command s)
 
-    direct_tests_lem : (found : Lookup) (command : Command) (s : State) → direct_tests found command other marks buffer s ≡ direct_tests found command image marks buffer s
-    direct_tests_lem found command s = ap₂ ◌++◌ (lent_tests_lem command s.cells) (word_tests_lem found command s)
+  carried_same : (found : Lookup) (command : Command) (s : State) → zeroizes (Direct command) ≡ false
+      → carried_out found command other marks s ≡ carried_out found command image marks s
+  unfolding carried_out
+  carried_same NoWord command s o = refl
+  carried_same (Word i role wide) (Read cell) s o = refl
+  carried_same (Word i role wide) (Write cell value) s o = rw (same_secret (entry i))
+  carried_same (Word i role wide) (Zeroize cell) s o = absurd (false≢true (sym o))
 
-    carried_same : (found : Lookup) (command : Command) (s : State) → zeroizes (Direct buffer command) ≡ false
-        → carried_out found command other marks buffer s ≡ carried_out found command image marks buffer s
-    unfolding carried_out
-    carried_same NoWord command s o = refl
-    carried_same (Word i role wide) (Read cell) s o = rw (same_buffered (entry i))
-    carried_same (Word i role wide) (Write cell value) s o = rw (same_secret (entry i))
-    carried_same (Word i role wide) (Zeroize cell) s o = absurd (false≢true (sym o))
-
-    direct_same : (command : Command) → zeroizes (Direct buffer command) ≡ false → (s : State) → direct_of other marks buffer command s ≡ direct_of image marks buffer command s
-    direct_same command o s =
-        let found = word_at image (cell_of command) in
-        direct_at other marks buffer command s (word (cell_of command))
-        ∙ first_by (refusing Refused s) (direct_tests_lem found command s) (carried_same found command s o)
-        ∙ sym (direct_at image marks buffer command s refl)
+  direct_same : (command : Command) → zeroizes (Direct command) ≡ false → (s : State) → direct_of other marks command s ≡ direct_of image marks command s
+  direct_same command o s =
+      let found = word_at image (cell_of command) in
+      direct_at other marks command s (word (cell_of command))
+      ∙ first_by (refusing Refused s) (direct_tests_lem found command s) (carried_same found command s o)
+      ∙ sym (direct_at image marks command s refl)
 
   -- of ZEROIZE all but the word
   abbrev Alike : Outcome Answer State → Outcome Answer State → Type 0
@@ -149,36 +144,23 @@ module _ (image other marks : List ℕ) (d : Differ8 image other) (good : map_go
       let shown : Entry → ℕ = λ x. told_word x wide word in
       rw (same_secret (entry i)) (shown_alike (secret (entry_of image i)) (short bound word) (shown (entry_of other i)) (shown (entry_of image i)) new)
 
-  -- with its word left out an answer is still one
-  word_stays : (a : Answer) → is_a_word a ≡ is_a_word (wordless a)
-  word_stays (Shown word) = refl
-  word_stays (Burned word new) = refl
-  word_stays Done = refl
-  word_stays Withheld = refl
-  word_stays (Refused number) = refl
-
-  carried_alike : (buffer : List ℕ) (found : Lookup) (cell : ℕ) (s : State)
-      → Alike (carried_out found (Zeroize cell) other marks buffer s) (carried_out found (Zeroize cell) image marks buffer s)
+  carried_alike : (found : Lookup) (cell : ℕ) (s : State)
+      → Alike (carried_out found (Zeroize cell) other marks s) (carried_out found (Zeroize cell) image marks s)
   unfolding carried_out
-  carried_alike buffer NoWord cell s = (refl, refl)
-  carried_alike buffer (Word i role wide) cell s =
-      let cells = cells_after (Zeroize cell) wide marks s.cells in
-      let stands = word_of wide cell cells in
-      let new = new_after (Zeroize cell) wide marks s.cells in
-      let answer : Entry → Answer = λ x. answer_of (Zeroize cell) x wide (header_of image).bound stands new in
-      let alike = answer_alike i cell wide (header_of image).bound stands new in
-      let same = word_stays (answer (entry_of other i)) ∙ ap is_a_word alike ∙ sym (word_stays (answer (entry_of image i))) in
-      (rw bound alike, rw bound (ap (λ (b : Bool). state cells (cond b (skipping i s.context) s.context)) same))
+  carried_alike NoWord cell s = (refl, refl)
+  carried_alike (Word i role wide) cell s =
+      let stands = word_of wide cell (cells_after (Zeroize cell) wide marks s.cells) in
+      (rw bound (answer_alike i cell wide (header_of image).bound stands (new_after (Zeroize cell) wide marks s.cells)), refl)
 
-  zeroize_alike : (buffer : List ℕ) (cell : ℕ) (s : State) → Alike (direct_of other marks buffer (Zeroize cell) s) (direct_of image marks buffer (Zeroize cell) s)
-  zeroize_alike buffer cell s =
+  zeroize_alike : (cell : ℕ) (s : State) → Alike (direct_of other marks (Zeroize cell) s) (direct_of image marks (Zeroize cell) s)
+  zeroize_alike cell s =
       let found = word_at image cell in
       let refuse = refusing Refused s in
-      let there = carried_out found (Zeroize cell) other marks buffer s in
-      let at_other = direct_at other marks buffer (Zeroize cell) s (word cell) ∙ first_by refuse (direct_tests_lem buffer found (Zeroize cell) s) refl in
-      rw (at_other, direct_at image marks buffer (Zeroize cell) s refl)
-      (first_both Alike refuse refuse (direct_tests found (Zeroize cell) image marks buffer s) there (carried_out found (Zeroize cell) image marks buffer s)
-      (λ n _. (refl, refl)) (λ none. carried_alike buffer found cell s))
+      let there = carried_out found (Zeroize cell) other marks s in
+      let at_other = direct_at other marks (Zeroize cell) s (word cell) ∙ first_by refuse (direct_tests_lem found (Zeroize cell) s) refl in
+      rw (at_other, direct_at image marks (Zeroize cell) s refl)
+      (first_both Alike refuse refuse (direct_tests found (Zeroize cell) image marks s) there (carried_out found (Zeroize cell) image marks s)
+      (λ n _. (refl, refl)) (λ none. carried_alike found cell s))
 
   -- ---- erasures
 
@@ -202,7 +184,7 @@ module _ (image other marks : List ℕ) (d : Differ8 image other) (good : map_go
   erase_same : (i k mask : ℕ) (s : State) → erase_of other marks i k mask s ≡ erase_of image marks i k mask s
   unfolding erase_of
   erase_same i k mask s =
-      first_by (refusing unburned s) (ap₂ ◌++◌ (drive_tests_lem s.cells) (partition_tests_lem i s.context)) (ap (ran_in i s) (ran_same s.cells i k mask))
+      first_by (refusing unburned s) (ap₂ ◌++◌ (drive_tests_lem s.cells) (partition_tests_lem i s.context)) (ap (on_cells s) (ran_same s.cells i k mask))
 
   -- ---- the mailbox
 
@@ -220,7 +202,7 @@ module _ (image other marks : List ℕ) (d : Differ8 image other) (good : map_go
   accepted_same Clkc request s = refl
   accepted_same Klod request s = refl
   accepted_same Kunl request s = refl
-  accepted_same Fers request s = ap (telling (fers_of (partition_in request))) (ran_same s.cells (partition_in request) never 0)
+  accepted_same Fers request s = ap (telling fers_of) (ran_same s.cells (partition_in request) never 0)
   accepted_same Fsta request s = rw (active s.cells)
   accepted_same Ehdl request s = refl
   accepted_same Rhpk request s = refl
@@ -242,38 +224,37 @@ module _ (image other marks : List ℕ) (d : Differ8 image other) (good : map_go
   mailbox_same code request l = ap (written_out request l) (done_same code request (length l.response) (length l.block) l.state)
 
   call_same : (call : Call) → zeroizes call ≡ false → (s : State) → outcome_of other marks call s ≡ outcome_of image marks call s
-  call_same (Direct buffer command) o s = ap (telling Answering) (direct_same buffer command o s)
+  call_same (Direct command) o s = ap (telling Answering) (direct_same command o s)
   call_same (Erase i) o s = ap (telling Erasing) (erase_same i never 0 s)
   call_same (EraseCut i k mask) o s = ap (λ (e : Outcome Erasure State). telling Erasing (after_cut e)) (erase_same i k mask s)
   call_same (Mailbox code request response block) o s = ap replying (mailbox_same code request (lent s response block))
   call_same (TakeReply reply) o s = refl
   call_same (MakeTable handles algorithms) o s = refl
-  call_same (Restart buffer) o s = ap (restarting s) (restart_same image other marks good good' header entry s.cells (keeping s.context buffer))
+  call_same Restart o s = refl
 
   leaves : (call : Call) → zeroizes call ≡ false → (s : State) → after other marks call s ≡ after image marks call s
   leaves call o s = ap (λ (p : Outcome Told State). p.after) (call_same call o s)
 
   after_same : (call : Call) (s : State) → after other marks call s ≡ after image marks call s
-  after_same (Direct buffer (Read cell)) s = leaves (Direct buffer (Read cell)) refl s
-  after_same (Direct buffer (Write cell value)) s = leaves (Direct buffer (Write cell value)) refl s
-  after_same (Direct buffer (Zeroize cell)) s = (zeroize_alike buffer cell s).1
+  after_same (Direct (Read cell)) s = leaves (Direct (Read cell)) refl s
+  after_same (Direct (Write cell value)) s = leaves (Direct (Write cell value)) refl s
+  after_same (Direct (Zeroize cell)) s = (zeroize_alike cell s).1
   after_same (Erase i) s = leaves (Erase i) refl s
   after_same (EraseCut i k mask) s = leaves (EraseCut i k mask) refl s
   after_same (Mailbox code request response block) s = leaves (Mailbox code request response block) refl s
   after_same (TakeReply reply) s = refl
   after_same (MakeTable handles algorithms) s = refl
-  after_same (Restart buffer) s = leaves (Restart buffer) refl s
+  after_same Restart s = refl
 
   pub only_the_word : OnlyTheWord image other marks
   only_the_word = record {
     same_told = λ call o s. ap (λ (q : Outcome Told State). q.told) (call_same call o s);
     same_mailbox = mailbox_same;
-    same_but_word = λ buffer cell s. (zeroize_alike buffer cell s).0;
+    same_but_word = λ cell s. (zeroize_alike cell s).0;
     same_after = after_same;
     same_after_all = all;
     same_survey = survey;
     same_active = active;
-    same_check = check_same image other marks good good' header entry;
   }
     where
       all : (calls : List Call) (s : State) → after_all other marks calls s ≡ after_all image marks calls s

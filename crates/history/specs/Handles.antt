@@ -8,7 +8,7 @@ use Rattle.codec.specs.declared.Command.TheVariants.{Rhpk}
 use Rattle.codec.specs.Fields.{code_of, HpkeHandle, response_fields, number_at, no_numbers}
 use Rattle.mailbox.specs.declared.Reply.{Reply}
 use Rattle.mailbox.specs.declared.Reply.TheVariants.{Refused, Accepted}
-use Rattle.history.specs.Calls.{Call, Direct, Erase, EraseCut, Mailbox, TakeReply, MakeTable, Restart, Told, Answering, Erasing, Replying, Taking, Making, Restarting}
+use Rattle.history.specs.Calls.{Call, Direct, Erase, EraseCut, Mailbox, TakeReply, MakeTable, Restart, Told, Answering, Erasing, Replying, Taking, Making, Silent}
 use Rattle.history.specs.Calls.{told, after, after_all}
 
 -- what a host reads of a response of RHPK: "the new handle"
@@ -26,16 +26,16 @@ given_told (Erasing answer) = []
 given_told (Replying reply response) = given_in reply response
 given_told (Taking answer) = []
 given_told (Making answer) = []
-given_told (Restarting answer buffer) = []
+given_told Silent = []
 
 abbrev pub given_by : Call → Told → List ℕ
-given_by (Direct buffer command) t = []
+given_by (Direct command) t = []
 given_by (Erase i) t = []
 given_by (EraseCut i k mask) t = []
 given_by (Mailbox code request response block) t = cond (eqb code (code_of Rhpk)) (given_told t) []
 given_by (TakeReply reply) t = []
 given_by (MakeTable handles algorithms) t = []
-given_by (Restart buffer) t = []
+given_by Restart t = []
 
 -- these numbers, and all that a list of calls gives, the last first
 abbrev pub given_all : (image marks : List ℕ) → List Call → State → (numbers : List ℕ) → List ℕ

@@ -21,40 +21,20 @@ use Rattle.codec.specs.Fields.{code_of, command_of, known, HpkeHandle, one_numbe
 use Rattle.codec.specs.Laws.{code_of_lem, response_reads, response_long}
 use Rattle.mailbox.specs.declared.effects.Effect.{Effect}
 use Rattle.mailbox.specs.Mailbox.{refused, handle_in, rotation_of, partition_in, accepted, own_tests, context_after, lent, written_out}
+use Rattle.mailbox.specs.Laws.{fers_context}
 use Rattle.mailbox.specs.Told.{mailbox_elim}
 use Rattle.reply.specs.declared.Answer.{Answer as ReplyAnswer}
 use Rattle.reply.specs.Reply.{kind_after}
 use Rattle.reply.specs.Laws.{reply_elim}
 use Rattle.history.specs.Calls.{Call, Direct, Erase, EraseCut, Mailbox, TakeReply, MakeTable, Restart}
 use Rattle.history.specs.Calls.{Making, replying, told, refusal, after, after_all}
-use Rattle.restart.specs.declared.Answer.{Answer as RestartAnswer}
-use Rattle.restart.specs.Restart.{Lent as Kept, lent as keeping}
-use Rattle.restart.specs.Laws.{restart_elim}
-use Rattle.history.specs.Kept.{Spared, direct_spares, erase_spares, fers_spares, restart_spares}
+use Rattle.history.specs.Kept.{direct_leaves, erase_leaves}
 use Rattle.history.specs.Handles.{given_told, given_by, given_all, NumbersOnce}
 
 -- ---- what a call makes of the table: it leaves it and gives no number, or it is a rotation, or a table is made where there was none
 
--- the table is as it was, and its words are there
-pub record TableSame (before after : List ℕ) : Type 0 where
-  pub table : table_of after ≡ table_of before
-  pub there : Long before → Long after
-
-table_kept : (before : List ℕ) → TableSame before before
-table_kept before = record { table = refl; there = λ l. l }
-
-table_then : {before middle after : List ℕ} → TableSame before middle → TableSame middle after → TableSame before after
-table_then p q = record { table = q.table ∙ p.table; there = λ l. q.there (p.there l) }
-
--- where the words from the table on are, and where only the numbers beside the buffer change
-from_behind : (before after : List ℕ) → drop count_at after ≡ drop count_at before → TableSame before after
-from_behind before after e = record { table = table_behind before after e; there = long_behind before after e }
-
-from_spared : {before after : List ℕ} → Spared before after → TableSame before after
-from_spared p = record { table = p.table; there = λ l. omega (arith, p.long) }
-
 pub data Step (before after : List ℕ) (given : List ℕ) : Type 0 where
-  keeps : TableSame before after → given ≡ [] → Step before after given
+  keeps : drop count_at after ≡ drop count_at before → given ≡ [] → Step before after given
   rotates : (handle : ℕ) → Lowest (table_of before) handle (lowest_with (table_of before) handle) → used_up (table_of before) ≡ false
       → after ≡ rotated_at (lowest_with (table_of before) handle) (next_number (table_of before)) before → given ≡ next_number (table_of before) ∷ []
       → Step before after given
@@ -67,12 +47,12 @@ record Tabled (context : List ℕ) : Type 0 where
   long : Long context
   counted : has_table (table_of context) ≡ true
 
-tabled_same : (before after : List ℕ) → TableSame before after → Tabled before → Tabled after
-tabled_same before after e t = record { long = e.there t.long; counted = rw e.table t.counted }
+tabled_same : (before after : List ℕ) → drop count_at after ≡ drop count_at before → Tabled before → Tabled after
+tabled_same before after e t = record { long = long_behind before after e t.long; counted = rw (table_behind before after e) t.counted }
 
 tabled_rotated : (k number : ℕ) (before : List ℕ) → k < most → Tabled before → Tabled (rotated_at k number before)
 tabled_rotated k number before l t =
-    record { long = rotated_keeps Long (λ c i v _ _ l. store_long c i v l) before t.long k number; counted = rw (rotated_count k number before t.long l) t.counted }
+    record { long = rotated_keeps Long store_long before t.long k number; counted = rw (rotated_count k number before t.long l) t.counted }
 
 -- no table is made where one is
 no_table : (context : List ℕ) → (table_of context).count ≡ 0 → Tabled context → ⊥
@@ -100,9 +80,9 @@ is_new number numbers above = not_yes (is_among number numbers) (λ a. omega (ar
 
 module _ (numbers before : List ℕ) (s : SoFar numbers before) where
   -- the table stays
-  so_far_same : (after : List ℕ) → TableSame before after → SoFar numbers after
+  so_far_same : (after : List ℕ) → drop count_at after ≡ drop count_at before → SoFar numbers after
   so_far_same after e =
-      let same = e.table in
+      let same = table_behind before after e in
       record { tabled = tabled_same before after e s.tabled; none_twice = s.none_twice; none_above = rw same s.none_above; all_given = rw same s.all_given }
 
   -- a handle gets the next number
@@ -152,9 +132,9 @@ module _ (image marks : List ℕ) (s : State) where
   cut_step : (i k mask : ℕ) → Step s.context (after image marks (EraseCut i k mask) s).context []
   cut_step i k mask =
       let o = erase_of image marks i k mask s in
-      let same = from_spared (erase_spares image marks s i k mask) in
+      let same = ap (drop count_at) (erase_leaves image marks s i k mask) in
       cond_keeps (λ (context : List ℕ). Step s.context context []) (is_cut o.told) (emptied o.after.context) o.after.context
-      (λ _. keeps (table_then same (from_behind _ _ (emptied_behind o.after.context))) refl) (λ _. keeps same refl)
+      (λ _. keeps (emptied_behind o.after.context ∙ same) refl) (λ _. keeps same refl)
 
   -- of the mailbox's commands
   module _ (code : ℕ) (request response block : List ℕ) where
@@ -165,7 +145,7 @@ module _ (image marks : List ℕ) (s : State) where
     DoneStep d = Step s.context (context_after d.told s.context) (given_of d)
 
     refused_step : (n : ℕ) → (n ≡ 0 → ⊥) → DoneStep (outcome (refused n) s.cells)
-    refused_step n o = keeps (table_kept s.context) (rw (ne_eqb n 0 o) (cond_keeps (λ (g : List ℕ). g ≡ []) (eqb code (code_of Rhpk)) [] [] (λ _. refl) (λ _. refl)))
+    refused_step n o = keeps refl (rw (ne_eqb n 0 o) (cond_keeps (λ (g : List ℕ). g ≡ []) (eqb code (code_of Rhpk)) [] [] (λ _. refl) (λ _. refl)))
 
     -- the number that RHPK tells
     rotation_given : let t = table_of s.context in code ≡ code_of Rhpk → given_of (outcome (rotation_of t request) s.cells) ≡ next_number t ∷ []
@@ -178,22 +158,22 @@ module _ (image marks : List ℕ) (s : State) where
 
     command_step : (command : Command) → code ≡ code_of command → known command ≡ true → ((k : ℕ) → test_at (own_tests command image request s) k ≡ false)
         → DoneStep (accepted command image marks request s)
-    command_step Clkc e k none = keeps (from_behind _ _ (clearing_behind s.context)) (none_given _ _ (ap (λ (c : ℕ). eqb c (code_of Rhpk)) e))
-    command_step Klod e k none = keeps (from_behind _ _ (waiting_behind _ _ load_reply s.context)) (none_given _ _ (ap (λ (c : ℕ). eqb c (code_of Rhpk)) e))
-    command_step Kunl e k none = keeps (from_behind _ _ (waiting_behind _ _ unload_reply s.context)) (none_given _ _ (ap (λ (c : ℕ). eqb c (code_of Rhpk)) e))
+    command_step Clkc e k none = keeps (clearing_behind s.context) (none_given _ _ (ap (λ (c : ℕ). eqb c (code_of Rhpk)) e))
+    command_step Klod e k none = keeps (waiting_behind _ _ load_reply s.context) (none_given _ _ (ap (λ (c : ℕ). eqb c (code_of Rhpk)) e))
+    command_step Kunl e k none = keeps (waiting_behind _ _ unload_reply s.context) (none_given _ _ (ap (λ (c : ℕ). eqb c (code_of Rhpk)) e))
     command_step Fers e k none =
-        keeps (from_spared (fers_spares (partition_in request) (uncut_of image s.cells marks (partition_in request)).told s.context))
+        keeps (ap (drop count_at) (fers_context (uncut_of image s.cells marks (partition_in request)).told s.context))
         (none_given _ _ (ap (λ (c : ℕ). eqb c (code_of Rhpk)) e))
-    command_step Fsta e k none = keeps (table_kept s.context) (none_given _ _ (ap (λ (c : ℕ). eqb c (code_of Rhpk)) e))
-    command_step Ehdl e k none = keeps (table_kept s.context) (none_given _ _ (ap (λ (c : ℕ). eqb c (code_of Rhpk)) e))
+    command_step Fsta e k none = keeps refl (none_given _ _ (ap (λ (c : ℕ). eqb c (code_of Rhpk)) e))
+    command_step Ehdl e k none = keeps refl (none_given _ _ (ap (λ (c : ℕ). eqb c (code_of Rhpk)) e))
     command_step Rhpk e k none =
         rotates (handle_in request) (lowest_tells (table_of s.context) (handle_in request) (not-false _ (none 2))) (none 3) refl (rotation_given e)
     command_step Unknown e k none = absurd (false≢true k)
 
   -- and of every call
   pub call_step : (call : Call) → Step s.context (after image marks call s).context (given_by call (told image marks call s))
-  call_step (Direct buffer command) = keeps (from_spared (direct_spares image marks buffer s command)) refl
-  call_step (Erase i) = keeps (from_spared (erase_spares image marks s i never 0)) refl
+  call_step (Direct command) = keeps (ap (drop count_at) (direct_leaves image marks s command)) refl
+  call_step (Erase i) = keeps (ap (drop count_at) (erase_leaves image marks s i never 0)) refl
   call_step (EraseCut i k mask) = cut_step i k mask
   call_step (Mailbox code request response block) =
       mailbox_elim image marks code request (length response) (length block) s (DoneStep code request response block)
@@ -201,14 +181,11 @@ module _ (image marks : List ℕ) (s : State) where
       (λ _ _ k none. command_step code request response block (command_of code) (code_of_lem code k) k none)
   call_step (TakeReply reply) =
       reply_elim reply s.context (λ (o : Outcome ReplyAnswer (List ℕ)). Step s.context o.after [])
-      (λ _. keeps (table_kept s.context) refl) (λ _. keeps (from_behind _ _ (settled_behind (kind_after reply (cache_of s.context).awaited) s.context)) refl)
+      (λ _. keeps refl refl) (λ _. keeps (settled_behind (kind_after reply (cache_of s.context).awaited) s.context) refl)
   call_step (MakeTable handles algorithms) =
       making_elim handles algorithms s.context (λ (o : Outcome TableAnswer (List ℕ)). Step s.context o.after [])
-      (keeps (table_kept s.context) refl) (λ none. makes (eqb-true _ _ (not-false _ (none 0))))
-  call_step (Restart buffer) =
-      restart_elim image s.cells marks (keeping s.context buffer) (λ (o : Outcome RestartAnswer Kept). Step s.context o.after.context [])
-      (λ n _. keeps (table_kept s.context) refl)
-      (λ _. keeps (table_then (from_behind _ _ (emptied_behind s.context)) (from_spared (restart_spares image s.cells s.context))) refl)
+      (keeps refl refl) (λ none. makes (eqb-true _ _ (not-false _ (none 0))))
+  call_step Restart = keeps (emptied_behind s.context) refl
 
 -- ---- every list of calls
 
@@ -241,7 +218,7 @@ record Stays (before after : List ℕ) : Type 0 where
 
 step_stays : (before after given : List ℕ) → Step before after given → Tabled before → Stays before after
 step_stays before after given (keeps e none) t =
-    record { tabled = tabled_same before after e t; same_count = ap (λ (x : Table). x.count) e.table }
+    record { tabled = tabled_same before after e t; same_count = ap (λ (x : Table). x.count) (table_behind before after e) }
 step_stays before after given (rotates handle found left e is) t =
     let k = lowest_with (table_of before) handle in
     let next = next_number (table_of before) in

@@ -1,14 +1,14 @@
 -- Document 01, "Active slot and key cache": "From an empty cache, therefore, with map and marks fixed and fuses and cache changed only by
 -- these commands, cuts and restarts, places are held only while the HEK is available"; with request P5, of every place that is not empty,
 -- and of the engine's replies too. Assumes nothing.
-use Rattle.std.specs.Prelude.{ℕ, ◌≤◌, ◌<◌, ◌≡◌, Bool, true, false, length}
-use Rattle.std.proofs.Math.Path.{refl}
-use Rattle.std.proofs.Common.{sym, ap, subst, ◌∙◌, ⊎_elim, inl, inr, arith, leb-false}
-use Rattle.std.proofs.lemmas.Bool.{false≢true, not-false}
-use mathlib.Core.List.{List, [], ◌∷◌}
+use Rattle.std.specs.Prelude.{ℕ, ◌≤◌, ◌<◌, ◌≡◌, refl, Bool, false, List, [], ◌∷◌, length}
+use Rattle.std.proofs.Common.{sym, ap, subst, ◌∙◌, ⊎_elim, inl, inr, arith}
+use Rattle.std.proofs.Math.Bool.{true}
+use Rattle.std.proofs.lemmas.Bool.{false≢true}
+use borrow.Author.Tests.{not-false, leb-false}
 use Rattle.laws.specs.Tests.{ordered, not_first, cond_keeps}
 use Rattle.laws.specs.Refusals.{test_at, first_elim}
-use Rattle.context.specs.State.{State, with_cells, with_context, Outcome, refusing, state}
+use Rattle.context.specs.State.{State, with_cells, with_context, Outcome, refusing}
 use Rattle.map.specs.Map.{header_of, entry_of, end_of, slot, map_good}
 use Rattle.map.specs.Laws.{map_order}
 use Rattle.fuse.specs.Fuse.{burn_word}
@@ -31,15 +31,16 @@ use Rattle.direct.specs.declared.Command.TheVariants.{Read, Write, Zeroize}
 use Rattle.direct.specs.declared.Answer.{Answer}
 use Rattle.direct.specs.declared.Answer.TheVariants.{Refused}
 use Rattle.direct.specs.Direct.{cell_of, changes_slot, direct_tests, cells_after, carried_out, direct_by}
-use Rattle.direct.specs.Laws.{direct_at, word_past}
+use Rattle.direct.specs.Laws.{direct_at}
 use Rattle.codec.specs.declared.Command.{Command as Command'}
 use Rattle.codec.specs.declared.Command.TheVariants.{Clkc, Klod, Kunl, Fers, Fsta, Ehdl, Rhpk, Unknown}
 use Rattle.codec.specs.Fields.{command_of, known, request_fields, tag_at}
 use Rattle.erasure.specs.declared.Answer.{Answer as Erasure}
-use Rattle.erasure.specs.Erasure.{erase_tests, never, run_on, unburned, burning, erase_of, uncut_of, is_cut, ran_of}
+use Rattle.erasure.specs.Erasure.{erase_tests, never, run_on, unburned, burning, erase_of, uncut_of, is_cut}
 use Rattle.erasure.specs.Parts.{Apart, run_apart}
 use Rattle.erasure.specs.Cuts.{whole_by}
 use Rattle.mailbox.specs.declared.effects.Effect.{Effect}
+use Rattle.mailbox.specs.Laws.{fers_context}
 use Rattle.mailbox.specs.Told.{mailbox_elim}
 use Rattle.mailbox.specs.Handles.{rotated_cache}
 use Rattle.mailbox.specs.Mailbox.{rotation_of, partition_in, accepted, own_tests, state_after}
@@ -47,11 +48,8 @@ use Rattle.engine.specs.declared.EngineReply.{EngineReply}
 use Rattle.reply.specs.declared.Answer.{Answer as ReplyAnswer}
 use Rattle.reply.specs.Reply.{kind_after}
 use Rattle.reply.specs.Laws.{reply_elim}
-use Rattle.restart.specs.declared.Answer.{Answer as RestartAnswer}
-use Rattle.restart.specs.Restart.{Lent as Kept, lent as keeping}
-use Rattle.restart.specs.Laws.{restart_elim}
 use Rattle.history.specs.Calls.{occupied, Call, Direct, Erase, EraseCut, Mailbox, TakeReply, MakeTable, Restart, after, after_all}
-use Rattle.history.specs.Kept.{made_cache, skipping_spared, command_keeps, ended_spares, fers_spares, restart_spares}
+use Rattle.history.specs.Kept.{made_cache}
 
 -- ---- the claim
 
@@ -90,10 +88,6 @@ module _ (image marks : List ℕ) (s : State) (safe : Safe image s) where
   none_safe : (t : State) → Safe image (with_context (emptied t.context) t)
   none_safe t h = absurd (false≢true (sym (emptied_rest t.context).all_empty ∙ h))
 
-  -- what leaves the cache occupies no place
-  cache_safe : (cells context : List ℕ) → cache_of context ≡ cache_of s.context → Safe image (with_cells cells s) → Safe image (state cells context)
-  cache_safe cells context e f h = f (rw e at h)
-
   -- a direct command that is not refused changes no slot while a place is occupied
   word_safe : (command : Command) (i : ℕ) (role : Role) (wide : Bool) → map_good image ≡ true → Found image (cell_of command) i role wide
       → changes_slot command image i s.context ≡ false → Safe image (with_cells (cells_after command wide marks s.cells) s)
@@ -102,25 +96,19 @@ module _ (image marks : List ℕ) (s : State) (safe : Safe image s) where
   word_safe (Write cell value) i role wide good found n h = rw (word_kept image good found (not_first _ _ n h) marks value s.cells) (safe h)
   word_safe (Zeroize cell) i role wide good found n h = rw (word_kept image good found (not_first _ _ n h) marks _ s.cells) (safe h)
 
-  by_safe : (buffer : List ℕ) (command : Command) (found : Lookup) → word_at image (cell_of command) ≡ found → Safe image (direct_by found image marks buffer command s).after
+  by_safe : (command : Command) (found : Lookup) → word_at image (cell_of command) ≡ found → Safe image (direct_by found image marks command s).after
   unfolding carried_out
-  by_safe buffer command Nothing e =
-      first_elim (λ (o : Outcome Answer State). Safe image o.after) (refusing Refused s) (direct_tests Nothing command image marks buffer s)
-      (carried_out Nothing command image marks buffer s) (λ n _. safe) (λ none. safe)
-  by_safe buffer command (Word i role wide) e =
+  by_safe command Nothing e =
+      first_elim (λ (o : Outcome Answer State). Safe image o.after) (refusing Refused s) (direct_tests Nothing command image marks s) (carried_out Nothing command image marks s)
+      (λ n _. safe) (λ none. safe)
+  by_safe command (Word i role wide) e =
       first_elim (λ (o : Outcome Answer State). Safe image o.after) (refusing Refused s)
-      (direct_tests (Word i role wide) command image marks buffer s) (carried_out (Word i role wide) command image marks buffer s)
+      (direct_tests (Word i role wide) command image marks s) (carried_out (Word i role wide) command image marks s)
       (λ n _. safe)
-      (λ none.
-      let past = word_past image marks buffer command s i role wide none in
-      let good = past.good in
-      cache_safe (cells_after command wide marks s.cells) _
-      (command_keeps (λ (c : List ℕ). cache_of c ≡ cache_of s.context) s.context refl (λ j. (skipping_spared j s.context).cache) command i _)
-      (word_safe command i role wide good (word_tells image good (cell_of command) i role wide (sym e)) past.unused))
+      (λ none. let good : map_good image ≡ true = not-false _ (none 0) in word_safe command i role wide good (word_tells image good (cell_of command) i role wide (sym e)) (none 4))
 
-  direct_safe : (buffer : List ℕ) (command : Command) → Safe image (after image marks (Direct buffer command) s)
-  direct_safe buffer command =
-      subst (λ (o : Outcome Answer State). Safe image o.after) (sym (direct_at image marks buffer command s refl)) (by_safe buffer command (word_at image (cell_of command)) refl)
+  direct_safe : (command : Command) → Safe image (after image marks (Direct command) s)
+  direct_safe command = subst (λ (o : Outcome Answer State). Safe image o.after) (sym (direct_at image marks command s refl)) (by_safe command (word_at image (cell_of command)) refl)
 
   -- nor does a run over a partition, cut or not
   run_safe : (i k mask : ℕ) → map_good image ≡ true → whole_arrays image s.cells marks ≡ true → i < (header_of image).partitions
@@ -135,9 +123,7 @@ module _ (image marks : List ℕ) (s : State) (safe : Safe image s) where
   erase_safe i k mask =
       first_elim (λ (o : Outcome Erasure State). Safe image o.after) (refusing unburned s) (erase_tests image marks i s) (burning image marks i k mask s)
       (λ n _. safe)
-      (λ none.
-      cache_safe (run_on image s.cells marks i k mask).tally.cells _ (ended_spares i (ran_of image i (run_on image s.cells marks i k mask)).told s.context).cache
-      (run_safe i k mask (not-false _ (none 0)) (not-false _ (none 1)) (leb-false _ _ (none 2)) (none 4)))
+      (λ none. run_safe i k mask (not-false _ (none 0)) (not-false _ (none 1)) (leb-false _ _ (none 2)) (none 4))
 
   -- a cut leaves no place occupied
   cut_safe : (i k mask : ℕ) → Safe image (after image marks (EraseCut i k mask) s)
@@ -158,8 +144,7 @@ module _ (image marks : List ℕ) (s : State) (safe : Safe image s) where
       let tag = tag_at (request_fields Kunl) request in
       λ _. safe (has_occupied (cache_of s.context) (Tag tag) (tag_occupies tag) (not-false _ (none 0)))
   accepted_safe Fers request good arrays k none =
-      let p = partition_in request in
-      cache_safe (run_on image s.cells marks p never 0).tally.cells _ (fers_spares p (uncut_of image s.cells marks p).told s.context).cache (run_safe p never 0 good arrays (leb-false _ _ (none 0)) (none 2))
+      rw (fers_context (uncut_of image s.cells marks (partition_in request)).told s.context) (run_safe (partition_in request) never 0 good arrays (leb-false _ _ (none 0)) (none 2))
   accepted_safe Fsta request good arrays k none = safe
   accepted_safe Ehdl request good arrays k none = safe
   accepted_safe Rhpk request good arrays k none =
@@ -182,23 +167,17 @@ module _ (image marks : List ℕ) (s : State) (safe : Safe image s) where
       making_elim handles algorithms s.context (λ (o : Outcome TableAnswer (List ℕ)). Safe image (with_context o.after s))
       safe (λ _ h. safe (rw (made_cache handles algorithms s.context) at h))
 
-  -- after a restart no place is occupied, and one that is refused changes none
-  restart_safe : (buffer : List ℕ) → Safe image (after image marks (Restart buffer) s)
-  restart_safe buffer =
-      restart_elim image s.cells marks (keeping s.context buffer) (λ (o : Outcome RestartAnswer Kept). Safe image (with_context o.after.context s))
-      (λ n _. safe) (λ _ h. none_safe s (rw (restart_spares image s.cells s.context).cache at h))
-
 -- ---- every list of calls
 
 -- one call keeps the claim
 pub call_safe : (image marks : List ℕ) (call : Call) (s : State) → Safe image s → Safe image (after image marks call s)
-call_safe image marks (Direct buffer command) s safe = direct_safe image marks s safe buffer command
+call_safe image marks (Direct command) s safe = direct_safe image marks s safe command
 call_safe image marks (Erase i) s safe = erase_safe image marks s safe i never 0
 call_safe image marks (EraseCut i k mask) s safe = cut_safe image marks s safe i k mask
 call_safe image marks (Mailbox code request response block) s safe = mailbox_safe image marks s safe code request response block
 call_safe image marks (TakeReply reply) s safe = reply_safe image marks s safe reply
 call_safe image marks (MakeTable handles algorithms) s safe = table_safe image marks s safe handles algorithms
-call_safe image marks (Restart buffer) s safe = restart_safe image marks s safe buffer
+call_safe image marks Restart s safe = none_safe image marks s safe s
 
 -- so does every list of calls
 pub calls_safe : (image marks : List ℕ) (calls : List Call) (s : State) → Safe image s → Safe image (after_all image marks calls s)

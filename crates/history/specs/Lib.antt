@@ -12,11 +12,7 @@ pub mod Handles
 pub mod HandlesProof
 pub mod Refused
 pub mod Zeroize
-pub mod Buffers
-pub mod Beside
-pub mod BuffersProof
 pub mod Guides
-pub mod GuidesBuffers
 pub mod GuidesProof
 pub mod Fifteen
 pub mod Demand3

@@ -15,8 +15,7 @@ use Rattle.engine.specs.declared.EngineReply.TheVariants.{Done, TimedOut, Failed
 use Rattle.erasure.specs.Erasure.{is_cut}
 use Rattle.mailbox.specs.Mailbox.{loads}
 use Rattle.reply.specs.declared.Answer.TheVariants.{Taken, Refused}
-use Rattle.restart.specs.declared.Answer.TheVariants.{Restarted, Refused as NotRestarted}
-use Rattle.history.specs.Calls.{Call, Direct, Erase, EraseCut, Mailbox, TakeReply, MakeTable, Restart, Told, Answering, Erasing, Replying, Taking, Making, Restarting}
+use Rattle.history.specs.Calls.{Call, Direct, Erase, EraseCut, Mailbox, TakeReply, MakeTable, Restart, Told, Answering, Erasing, Replying, Taking, Making, Silent}
 use Rattle.history.specs.Calls.{order_in, told, after}
 
 -- ---- the orders
@@ -57,7 +56,7 @@ order_told (Erasing answer) = Nothing
 order_told (Replying reply response) = order_in reply
 order_told (Taking answer) = Nothing
 order_told (Making answer) = Nothing
-order_told (Restarting answer buffer) = Nothing
+order_told Silent = Nothing
 
 abbrev pub taken_told : Told → Bool
 taken_told (Answering answer) = false
@@ -66,7 +65,7 @@ taken_told (Replying reply response) = false
 taken_told (Taking Taken) = true
 taken_told (Taking (Refused number)) = false
 taken_told (Making answer) = false
-taken_told (Restarting answer buffer) = false
+taken_told Silent = false
 
 abbrev pub cut_told : Told → Bool
 cut_told (Answering answer) = false
@@ -74,27 +73,17 @@ cut_told (Erasing answer) = is_cut answer
 cut_told (Replying reply response) = false
 cut_told (Taking answer) = false
 cut_told (Making answer) = false
-cut_told (Restarting answer buffer) = false
-
--- a restart was carried out
-abbrev pub restarted_told : Told → Bool
-restarted_told (Answering answer) = false
-restarted_told (Erasing answer) = false
-restarted_told (Replying reply response) = false
-restarted_told (Taking answer) = false
-restarted_told (Making answer) = false
-restarted_told (Restarting Restarted buffer) = true
-restarted_told (Restarting (NotRestarted number) buffer) = false
+cut_told Silent = false
 
 -- the orders after a call, the last first
 abbrev pub orders_after : Call → Told → List Given → List Given
-orders_after (Direct buffer command) t orders = orders
+orders_after (Direct command) t orders = orders
 orders_after (Erase i) t orders = orders
 orders_after (EraseCut i k mask) t orders = cond (cut_told t) (closed Dropped orders) orders
 orders_after (Mailbox code request response block) t orders = opened (order_told t) orders
 orders_after (TakeReply reply) t orders = cond (taken_told t) (closed (Answered reply) orders) orders
 orders_after (MakeTable handles algorithms) t orders = orders
-orders_after (Restart buffer) t orders = cond (restarted_told t) (closed Dropped orders) orders
+orders_after Restart t orders = closed Dropped orders
 
 -- and after a list of calls
 abbrev pub orders_all : (image marks : List ℕ) → List Call → State → List Given → List Given
@@ -136,7 +125,7 @@ last_load_done (g ∷ orders) k = cond (names g.order k) (loads g.order && is_do
 -- ---- the claim
 
 -- an empty context: all places are empty and no reply is awaited. It has the words of the cache, the first 33, as every lent context has,
--- which is an array of 70; of a shorter list the claim below would be false, since what is stored past its end is lost. A table is not asked
+-- which is an array of 38; of a shorter list the claim below would be false, since what is stored past its end is lost. A table is not asked
 -- for (request P6): without one every mailbox command is refused, and the claim holds too
 pub record EmptyContext (context : List ℕ) : Type 0 where
   pub at_rest : AtRest (cache_of context)

@@ -7,7 +7,7 @@ use Rattle.laws.specs.Refusals.{test_at}
 use Rattle.context.specs.State.{State, Outcome}
 use Rattle.map.specs.Map.{map_good}
 use Rattle.drive.specs.Drive.{whole_arrays}
-use Rattle.cache.specs.Cache.{cache_of, lowest_place, awaits, place_at, AtRest, emptied}
+use Rattle.cache.specs.Cache.{cache_of, lowest_place, awaits, place_at, AtRest}
 use Rattle.cache.specs.declared.Place.TheVariants.{Waiting}
 use Rattle.cache.specs.declared.Sought.TheVariants.{Empty, Tag}
 use Rattle.cache.specs.Laws.{has_tells}
@@ -34,12 +34,9 @@ use Rattle.mailbox.specs.Handles.{rotated_cache}
 use Rattle.mailbox.specs.Mailbox.{refused, fers_of, rotation_of, partition_in, accepted, own_tests, context_after, reply_of}
 use Rattle.reply.specs.declared.Answer.{Answer as ReplyAnswer}
 use Rattle.reply.specs.Laws.{reply_elim, reply_taken}
-use Rattle.history.specs.Calls.{Call, Direct, Erase, EraseCut, Mailbox, TakeReply, MakeTable, Restart, Taking, Restarting, order_in, told, after, after_all}
-use Rattle.restart.specs.declared.Answer.{Answer as RestartAnswer}
-use Rattle.restart.specs.Restart.{Lent, lent as keeping}
-use Rattle.restart.specs.Laws.{restart_elim}
-use Rattle.history.specs.Kept.{Spared, skipping_spared, direct_spares, erase_spares, restart_spares, made_cache}
-use Rattle.history.specs.Orders.{Given, Answered, opened, closed, taken_told, restarted_told, orders_after, orders_all, open_in, EmptyContext, Orderly, Dropped}
+use Rattle.history.specs.Calls.{Call, Direct, Erase, EraseCut, Mailbox, TakeReply, MakeTable, Restart, Taking, order_in, told, after, after_all}
+use Rattle.history.specs.Kept.{direct_leaves, erase_leaves, made_cache}
+use Rattle.history.specs.Orders.{Given, Answered, opened, closed, taken_told, orders_after, orders_all, open_in, EmptyContext, Orderly}
 use Rattle.history.specs.Standing.{Standing, idle, awaited, Sound, sound_start, sound_cache, sound_emptied, sound_load, sound_unload, sound_clear, replied_to}
 use Rattle.history.specs.Settled.{sound_reply, clear_done}
 
@@ -56,15 +53,11 @@ module _ (image marks : List ℕ) (s : State) where
     refused_sound n =
         cond_keeps (λ (r : Reply). Sound (opened (order_in r) orders) s.context) (eqb n 0) (Accepted _ Nothing) (Refused n) (λ _. sound) (λ _. sound)
 
-    -- what changes nothing but the numbers beside the buffer keeps them
-    spared_sound : {after : List ℕ} → Spared s.context after → Sound orders after
-    spared_sound p = sound_cache orders s.context _ p.cache (omega (arith, sound.long, p.long)) sound
-
     -- nor does FERS
-    fers_sound : (i : ℕ) (answer : Answer) → Sound (opened (order_in (reply_of (fers_of i answer))) orders) (context_after (fers_of i answer) s.context)
-    fers_sound i (Ended short first burns new) = spared_sound (skipping_spared i s.context)
-    fers_sound i (NotErased number burns) = refused_sound number
-    fers_sound i (Cut burns new) = sound
+    fers_sound : (answer : Answer) → Sound (opened (order_in (reply_of (fers_of answer))) orders) (context_after (fers_of answer) s.context)
+    fers_sound (Ended short first burns new) = sound
+    fers_sound (NotErased number burns) = refused_sound number
+    fers_sound (Cut burns new) = sound
 
     accepted_sound : (command : Code) (request : List ℕ) → map_good image ≡ true → whole_arrays image s.cells marks ≡ true → known command ≡ true
         → ((k : ℕ) → test_at (own_tests command image request s) k ≡ false) → DoneSound (accepted command image marks request s)
@@ -78,13 +71,13 @@ module _ (image marks : List ℕ) (s : State) where
         let found = has_tells (cache_of s.context) (Tag tag) (not-false _ (none 0)) in
         sound_unload orders s.context sound (none 1) (lowest_place (cache_of s.context) (Tag tag))
         (number_at (request_fields Kunl) CmdTimeout request) tag found.0 found.1
-    accepted_sound Fers request good arrays k none = fers_sound (partition_in request) (uncut_of image s.cells marks (partition_in request)).told
+    accepted_sound Fers request good arrays k none = fers_sound (uncut_of image s.cells marks (partition_in request)).told
     accepted_sound Fsta request good arrays k none = sound
     accepted_sound Ehdl request good arrays k none = sound
     accepted_sound Rhpk request good arrays k none =
         let e = rotation_of (table_of s.context) request in
         sound_cache orders s.context (context_after e s.context) (rotated_cache e.rotates e.numbers.first s.context)
-        (rotated_keeps Long (λ c i v l _ p. store_long c i v l p) s.context sound.long e.rotates e.numbers.first) sound
+        (rotated_keeps Long store_long s.context sound.long e.rotates e.numbers.first) sound
     accepted_sound Unknown request good arrays k none = absurd (false≢true k)
 
     -- so every call
@@ -96,7 +89,7 @@ module _ (image marks : List ℕ) (s : State) where
         let o = erase_of image marks i k mask s in
         ⊎_elim
         (λ (y : is_cut o.told ≡ true). rw y (sound_emptied orders o.after.context))
-        (λ (n : is_cut o.told ≡ false). rw n (spared_sound (erase_spares image marks s i k mask)))
+        (λ (n : is_cut o.told ≡ false). rw n (subst (Sound orders) (sym (erase_leaves image marks s i k mask)) sound))
         (decided (is_cut o.told))
 
     reply_kept : (reply : EngineReply) → Kept (TakeReply reply)
@@ -109,27 +102,17 @@ module _ (image marks : List ℕ) (s : State) where
     table_kept handles algorithms =
         making_elim handles algorithms s.context (λ (o : Outcome TableAnswer (List ℕ)). Sound orders o.after) sound
         (λ _. sound_cache orders s.context (made handles algorithms s.context) (made_cache handles algorithms s.context)
-        (made_keeps Long (λ c i v l _ p. store_long c i v l p) s.context sound.long handles algorithms) sound)
-
-    restart_kept : (buffer : List ℕ) → Kept (Restart buffer)
-    restart_kept buffer =
-        restart_elim image s.cells marks (keeping s.context buffer)
-        (λ (o : Outcome RestartAnswer Lent). Sound (cond (restarted_told (Restarting o.told o.after.buffer)) (closed Dropped orders) orders) o.after.context)
-        (λ n _. sound)
-        (λ _.
-        let p = restart_spares image s.cells s.context in
-        let emptied_sound = sound_emptied orders s.context in
-        sound_cache (closed Dropped orders) (emptied s.context) _ p.cache (omega (arith, emptied_sound.long, p.long)) emptied_sound)
+        (made_keeps Long store_long s.context sound.long handles algorithms) sound)
 
     pub call_kept : (call : Call) → Kept call
-    call_kept (Direct buffer command) = spared_sound (direct_spares image marks buffer s command)
-    call_kept (Erase i) = spared_sound (erase_spares image marks s i never 0)
+    call_kept (Direct command) = subst (Sound orders) (sym (direct_leaves image marks s command)) sound
+    call_kept (Erase i) = subst (Sound orders) (sym (erase_leaves image marks s i never 0)) sound
     call_kept (EraseCut i k mask) = cut_kept i k mask
     call_kept (Mailbox code request response block) =
         mailbox_elim image marks code request (length response) (length block) s DoneSound (λ n _ _. refused_sound n) (accepted_sound (command_of code) request)
     call_kept (TakeReply reply) = reply_kept reply
     call_kept (MakeTable handles algorithms) = table_kept handles algorithms
-    call_kept (Restart buffer) = restart_kept buffer
+    call_kept Restart = sound_emptied orders s.context
 
 -- ---- every list of calls
 

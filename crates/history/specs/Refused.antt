@@ -1,6 +1,7 @@
 -- Demand 1: "a refusal changes nothing", of every entry point and every number. Document 01 had one exception, 15, which left its indicator
 -- burned; since request P4 it has nothing to leave, and `Fifteen` says when it is given. Assumes nothing.
-use Rattle.std.specs.Prelude.{ℕ, suc, ◌-◌, ◌≤◌, ◌<◌, ◌≡◌, refl, Bool, true, false, List, [], length, eqb}
+use Rattle.std.specs.Prelude.{ℕ, suc, ◌-◌, ◌≤◌, ◌<◌, ◌≡◌, Bool, true, false, List, [], length, eqb}
+use Rattle.std.proofs.Math.Path.{refl}
 use Rattle.std.proofs.Common.{sym, ap, subst, ⊎_elim, arith, ne_eqb, leb-false}
 use Rattle.std.proofs.lemmas.Bool.{not-false}
 use Rattle.laws.specs.Tests.{cond_keeps}
@@ -15,18 +16,15 @@ use Rattle.burns.specs.Run.{Tally}
 use Rattle.word.specs.declared.Lookup.{Lookup}
 use Rattle.word.specs.declared.Lookup.TheVariants.{Word as Found, Nothing}
 use Rattle.word.specs.Word.{word_at}
-use Rattle.drive.specs.Drive.{Whole as WholeDrive, whole_arrays, buffer_tests}
+use Rattle.drive.specs.Drive.{Whole as WholeDrive, whole_arrays}
 use Rattle.direct.specs.declared.Command.{Command}
 use Rattle.direct.specs.declared.Command.TheVariants.{Read, Write, Zeroize}
 use Rattle.direct.specs.declared.Answer.{Answer as DirectAnswer}
 use Rattle.direct.specs.declared.Answer.TheVariants.{Word, Burned, Done, Withheld, Refused as NotDone}
 use Rattle.direct.specs.Direct.{cell_of, direct_tests, carried_out, answer_of, direct_by, direct_of}
-use Rattle.direct.specs.Laws.{direct_at, lacks_word}
-use Rattle.restart.specs.declared.Answer.{Answer as RestartAnswer}
-use Rattle.restart.specs.Restart.{Lent as Kept, lent as keeping, restart_of}
-use Rattle.restart.specs.Laws.{restart_elim}
+use Rattle.direct.specs.Laws.{direct_at}
 use Rattle.erasure.specs.declared.Answer.{Answer}
-use Rattle.erasure.specs.Erasure.{erase_tests, never, run_on, answer_by, unburned, ran_in, burning, erase_of, is_cut}
+use Rattle.erasure.specs.Erasure.{erase_tests, never, run_on, answer_by, unburned, burning, erase_of, is_cut}
 use Rattle.erasure.specs.Cuts.{uncut_judged, whole_by}
 use Rattle.erasure.specs.Ends.{stops_same}
 use Rattle.codec.specs.declared.Command.{Command as Code}
@@ -46,7 +44,7 @@ use Rattle.reply.specs.declared.Answer.{Answer as ReplyAnswer}
 use Rattle.reply.specs.Reply.{taking_of}
 use Rattle.reply.specs.Laws.{reply_elim}
 use Rattle.history.specs.Calls.{Call, Direct, Erase, EraseCut, Mailbox, TakeReply, MakeTable, Restart}
-use Rattle.history.specs.Calls.{Answering, Erasing, Replying, Taking, Making, Restarting, replying, told, refusal, after}
+use Rattle.history.specs.Calls.{Answering, Erasing, Replying, Taking, Making, replying, told, refusal, after}
 
 -- of a call that is refused: the state stays
 abbrev pub Unchanged : (image marks : List ℕ) → Call → State → Type 0
@@ -79,26 +77,26 @@ module _ (image marks : List ℕ) (s : State) where
   abbrev pub DirectStays : Outcome DirectAnswer State → Type 0
   DirectStays o = 1 ≤ refusal (Answering o.told) → (o.after ≡ s) × (refusal (Answering o.told) ≡ 15 → ⊥)
 
-  by_lookup : (buffer : List ℕ) (command : Command) (found : Lookup) → DirectStays (direct_by found image marks buffer command s)
+  by_lookup : (command : Command) (found : Lookup) → DirectStays (direct_by found image marks command s)
   unfolding carried_out
-  by_lookup buffer command Nothing =
-      let tests = direct_tests Nothing command image marks buffer s in
-      first_elim DirectStays (refusing NotDone s) tests (carried_out Nothing command image marks buffer s)
-      (λ n a l. (refl, λ e. not_numbered 15 tests (lacks_word 15 Nothing command image marks buffer s refl) a e)) (λ none l. (refl, λ e. omega arith))
-  by_lookup buffer command (Found i role wide) =
-      let tests = direct_tests (Found i role wide) command image marks buffer s in
-      first_elim DirectStays (refusing NotDone s) tests (carried_out (Found i role wide) command image marks buffer s)
-      (λ n a l. (refl, λ e. not_numbered 15 tests (lacks_word 15 (Found i role wide) command image marks buffer s refl) a e)) (λ none l. absurd (not_refused command _ _ _ _ _ l))
+  by_lookup command Nothing =
+      let tests = direct_tests Nothing command image marks s in
+      first_elim DirectStays (refusing NotDone s) tests (carried_out Nothing command image marks s)
+      (λ n a l. (refl, λ e. not_numbered 15 tests refl a e)) (λ none l. (refl, λ e. omega arith))
+  by_lookup command (Found i role wide) =
+      let tests = direct_tests (Found i role wide) command image marks s in
+      first_elim DirectStays (refusing NotDone s) tests (carried_out (Found i role wide) command image marks s)
+      (λ n a l. (refl, λ e. not_numbered 15 tests refl a e)) (λ none l. absurd (not_refused command _ _ _ _ _ l))
 
-  pub direct_stays : (buffer : List ℕ) (command : Command) → DirectStays (direct_of image marks buffer command s)
-  direct_stays buffer command = subst DirectStays (sym (direct_at image marks buffer command s refl)) (by_lookup buffer command (word_at image (cell_of command)))
+  pub direct_stays : (command : Command) → DirectStays (direct_of image marks command s)
+  direct_stays command = subst DirectStays (sym (direct_at image marks command s refl)) (by_lookup command (word_at image (cell_of command)))
 
   abbrev ErasureStays : Outcome Answer State → Type 0
   ErasureStays o = 1 ≤ refusal (Erasing o.told) → (o.after ≡ s) × (is_cut o.told ≡ false)
 
   -- an erasure that runs and is refused, with 15, leaves the state
   run_stays : (i k mask : ℕ) → WholeDrive image s.cells → i < (header_of image).partitions → (end : End) → (run_on image s.cells marks i k mask).end ≡ end
-      → let t = (run_on image s.cells marks i k mask).tally in ErasureStays (ran_in i s (outcome (answer_by end image i t) t.cells))
+      → let t = (run_on image s.cells marks i k mask).tally in ErasureStays (outcome (answer_by end image i t) (with_cells t.cells s))
   run_stays i k mask whole p Whole e l = absurd (omega arith)
   run_stays i k mask whole p Stopped e l = (ap (λ (c : List ℕ). with_cells c s) (stops_same image s.cells marks i k mask whole p e), refl)
   run_stays i k mask whole p CutEnd e l = absurd (omega arith)
@@ -116,7 +114,7 @@ module _ (image marks : List ℕ) (s : State) where
   Stays d = 1 ≤ refusal (Replying (reply_of d.told) []) → state_after d s ≡ s
 
   fers_stays : (i : ℕ) (t : Tally) (end : End) → (end ≡ CutEnd → ⊥) → (end ≡ Stopped → t.cells ≡ s.cells)
-      → Stays (outcome (fers_of i (answer_by end image i t)) t.cells)
+      → Stays (outcome (fers_of (answer_by end image i t)) t.cells)
   fers_stays i t Whole u h l = absurd (omega arith)
   fers_stays i t Stopped u h l = ap (λ (c : List ℕ). with_cells c s) (h refl)
   fers_stays i t CutEnd u h l = absurd (u refl)
@@ -155,26 +153,15 @@ module _ (image marks : List ℕ) (s : State) where
       (λ (o : Outcome TableAnswer (List ℕ)). 1 ≤ refusal (Making o.told) → (with_context o.after s ≡ s) × (refusal (Making o.told) ≡ 15 → ⊥))
       (λ l. (refl, λ e. omega arith)) (λ _ l. absurd (omega arith))
 
-  -- and a restart that is refused, the buffer too
-  pub restart_stays : (buffer : List ℕ) → let o = restart_of image s.cells marks (keeping s.context buffer) in
-      1 ≤ refusal (Restarting o.told o.after.buffer)
-      → (with_context o.after.context s ≡ s) × (refusal (Restarting o.told o.after.buffer) ≡ 15 → ⊥) × (o.after.buffer ≡ buffer)
-  restart_stays buffer =
-      let tests = buffer_tests image s.cells marks buffer in
-      restart_elim image s.cells marks (keeping s.context buffer)
-      (λ (o : Outcome RestartAnswer Kept). 1 ≤ refusal (Restarting o.told o.after.buffer)
-      → (with_context o.after.context s ≡ s) × (refusal (Restarting o.told o.after.buffer) ≡ 15 → ⊥) × (o.after.buffer ≡ buffer))
-      (λ n a l. (refl, (λ e. not_numbered 15 tests refl a e), refl)) (λ _ l. absurd (omega arith))
-
   -- so every call
   pub refused_unchanged : (call : Call) → Unchanged image marks call s
-  refused_unchanged (Direct buffer command) = λ l. (direct_stays buffer command l).0
+  refused_unchanged (Direct command) = λ l. (direct_stays command l).0
   refused_unchanged (Erase i) = λ l. (erase_stays i never 0 l).0
   refused_unchanged (EraseCut i k mask) = λ l. let both = erase_stays i k mask l in rw both.1 both.0
   refused_unchanged (Mailbox code request response block) = mailbox_stays code request (length response) (length block)
   refused_unchanged (TakeReply reply) = λ l. (reply_stays reply l).0
   refused_unchanged (MakeTable handles algorithms) = λ l. (making_stays handles algorithms l).0
-  refused_unchanged (Restart buffer) = λ l. (restart_stays buffer l).0
+  refused_unchanged Restart = λ l. absurd (omega arith)
 
 -- of the mailbox also response and block, whatever the refusal
 pub refused_buffers : (image marks : List ℕ) (code : ℕ) (request : List ℕ) (l : Lent) → let o = mailbox_of image marks code request l in

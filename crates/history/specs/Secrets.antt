@@ -1,5 +1,5 @@
 -- Document 01, "Direct commands" and demand 2: what no answer shows, and when a key is loaded. Assumes nothing.
-use Rattle.std.specs.Prelude.{ℕ, ◌+◌, ◌-◌, ◌≤◌, ◌<◌, ◌≡◌, Bool, cond, List, eqb, length}
+use Rattle.std.specs.Prelude.{ℕ, ◌+◌, ◌-◌, ◌≤◌, ◌<◌, ◌≡◌, Bool, List, eqb, length}
 use Rattle.std.proofs.Math.Path.{refl}
 use Rattle.std.proofs.Common.{sym, ap, ◌∙◌, ⊎_elim, arith}
 use Rattle.std.proofs.Math.Bool.{true, false}
@@ -9,7 +9,7 @@ use Rattle.laws.specs.Tests.{decided, not_yes, cond_keeps, ordered}
 use Rattle.laws.specs.Refusals.{first_elim}
 use Rattle.context.specs.State.{State, Outcome, refusing}
 use Rattle.map.specs.declared.Entry.{Entry}
-use Rattle.map.specs.Map.{header_of, entry_of, secret, older_guide, map_good, buffered}
+use Rattle.map.specs.Map.{header_of, entry_of, secret, older_guide, map_good}
 use Rattle.fuse.specs.Fuse.{ones_of, short, cells_in, all_ones}
 use Rattle.fuse.specs.Burn.{ones_all}
 use Rattle.word.specs.declared.Role.{Role}
@@ -21,7 +21,7 @@ use Rattle.direct.specs.declared.Command.{Command}
 use Rattle.direct.specs.declared.Command.TheVariants.{Read, Write, Zeroize}
 use Rattle.direct.specs.declared.Answer.{Answer}
 use Rattle.direct.specs.declared.Answer.TheVariants.{Word as Shown, Burned, Done, Withheld, Refused}
-use Rattle.direct.specs.Direct.{cell_of, word_of, forbidden, direct_tests, cells_after, told_word, answer_of, carried_out, direct_by, direct_of, is_a_word}
+use Rattle.direct.specs.Direct.{cell_of, word_of, forbidden, direct_tests, cells_after, told_word, answer_of, carried_out, direct_by, direct_of}
 use Rattle.direct.specs.Laws.{direct_at}
 use Rattle.drive.specs.Active.{Available, available_tells}
 use Rattle.codec.specs.Fields.{command_of}
@@ -32,6 +32,14 @@ use Rattle.mailbox.specs.Laws.{load_only}
 use Rattle.mailbox.specs.Told.{mailbox_elim}
 use Rattle.mailbox.specs.Mailbox.{refused, accepted, reply_of, Lent, mailbox_of, loads}
 use Rattle.history.specs.Calls.{order_in}
+
+-- an answer that shows a word
+abbrev pub shows : Answer → Bool
+shows (Shown word) = true
+shows (Burned word new) = true
+shows Done = false
+shows Withheld = false
+shows (Refused number) = false
 
 -- the word that an answer shows, 0 where it shows none
 abbrev pub shown_word : Answer → ℕ
@@ -55,18 +63,17 @@ zeros_of word = 64 - ones_of word
 
 -- ---- READ
 
--- an answer shows the word that starts at the cell, of the buffer where the partition is buffered (request P9), in a partition that is not
--- secret, and no cell of it lies in a secret one
-pub record Open (image buffer cells : List ℕ) (cell : ℕ) (answer : Answer) : Type 0 where
+-- an answer shows the word that starts at the cell, in a partition that is not secret, and no cell of it lies in a secret one
+pub record Open (image cells : List ℕ) (cell : ℕ) (answer : Answer) : Type 0 where
   pub partition : ℕ
   pub role : Role
   pub wide : Bool
   pub starts : word_at image cell ≡ Word partition role wide
-  pub is_word : answer ≡ Shown (word_of wide cell (cond (buffered (entry_of image partition)) buffer cells))
+  pub is_word : answer ≡ Shown (word_of wide cell cells)
   pub is_open : secret (entry_of image partition) ≡ false
   pub no_secret : (j k : ℕ) → j < (header_of image).partitions → secret (entry_of image j) ≡ true → cell ≤ k → k < cell + cells_in wide → holds (entry_of image j) k ≡ false
 
-module _ (image marks buffer : List ℕ) (s : State) (cell : ℕ) where
+module _ (image marks : List ℕ) (s : State) (cell : ℕ) where
   -- a cell of a word that lies in partition i lies in no other
   elsewhere : map_good image ≡ true → {i : ℕ} {role : Role} {wide : Bool} → Found image cell i role wide → secret (entry_of image i) ≡ false → (j k : ℕ)
       → j < (header_of image).partitions → secret (entry_of image j) ≡ true → cell ≤ k → k < cell + cells_in wide → holds (entry_of image j) k ≡ false
@@ -80,25 +87,25 @@ module _ (image marks buffer : List ℕ) (s : State) (cell : ℕ) where
       (λ (e : i ≡ j). false≢true (sym not_secret ∙ ap (λ (p : ℕ). secret (entry_of image p)) e ∙ is_secret)))
       (ordered i j))
 
-  open_by : (found : Lookup) → word_at image cell ≡ found → is_a_word (direct_by found image marks buffer (Read cell) s).told ≡ true
-      → Open image buffer s.cells cell (direct_by found image marks buffer (Read cell) s).told
+  open_by : (found : Lookup) → word_at image cell ≡ found → shows (direct_by found image marks (Read cell) s).told ≡ true
+      → Open image s.cells cell (direct_by found image marks (Read cell) s).told
   unfolding forbidden carried_out cells_after
   open_by NoWord e =
-      first_elim (λ (o : Outcome Answer State). is_a_word o.told ≡ true → Open image buffer s.cells cell o.told) (refusing Refused s)
-      (direct_tests NoWord (Read cell) image marks buffer s) (carried_out NoWord (Read cell) image marks buffer s)
+      first_elim (λ (o : Outcome Answer State). shows o.told ≡ true → Open image s.cells cell o.told) (refusing Refused s)
+      (direct_tests NoWord (Read cell) image marks s) (carried_out NoWord (Read cell) image marks s)
       (λ n _ y. absurd (false≢true y))
       (λ h y. absurd (false≢true y))
   open_by (Word i role wide) e =
-      first_elim (λ (o : Outcome Answer State). is_a_word o.told ≡ true → Open image buffer s.cells cell o.told) (refusing Refused s)
-      (direct_tests (Word i role wide) (Read cell) image marks buffer s) (carried_out (Word i role wide) (Read cell) image marks buffer s)
+      first_elim (λ (o : Outcome Answer State). shows o.told ≡ true → Open image s.cells cell o.told) (refusing Refused s)
+      (direct_tests (Word i role wide) (Read cell) image marks s) (carried_out (Word i role wide) (Read cell) image marks s)
       (λ n _ y. absurd (false≢true y))
       (λ h y.
       let good : map_good image ≡ true = not-false _ (h 0) in
-      record { partition = i; role = role; wide = wide; starts = e; is_word = refl; is_open = h 3; no_secret = elsewhere good (word_tells image good cell i role wide (sym e)) (h 3) })
+      record { partition = i; role = role; wide = wide; starts = e; is_word = refl; is_open = h 2; no_secret = elsewhere good (word_tells image good cell i role wide (sym e)) (h 2) })
 
   -- "Every word of a secret partition is refused": READ never shows a cell of one
-  pub read_shows : is_a_word (direct_of image marks buffer (Read cell) s).told ≡ true → Open image buffer s.cells cell (direct_of image marks buffer (Read cell) s).told
-  read_shows = rw (direct_at image marks buffer (Read cell) s refl) (open_by (word_at image cell) refl)
+  pub read_shows : shows (direct_of image marks (Read cell) s).told ≡ true → Open image s.cells cell (direct_of image marks (Read cell) s).told
+  read_shows = rw (direct_at image marks (Read cell) s refl) (open_by (word_at image cell) refl)
 
 -- the words of secret partitions
 pub record Secret (image : List ℕ) (cell : ℕ) : Type 0 where
@@ -112,10 +119,10 @@ same_word : {i j : ℕ} {r q : Role} {v w : Bool} → Word i r v ≡ Word j q w 
 same_word e = cc
 
 -- so READ of a word of a secret partition shows nothing
-pub read_hides : (image marks buffer : List ℕ) (s : State) (cell : ℕ) → Secret image cell → is_a_word (direct_of image marks buffer (Read cell) s).told ≡ false
-read_hides image marks buffer s cell hidden =
+pub read_hides : (image marks : List ℕ) (s : State) (cell : ℕ) → Secret image cell → shows (direct_of image marks (Read cell) s).told ≡ false
+read_hides image marks s cell hidden =
     not_yes _ (λ y.
-    let o = read_shows image marks buffer s cell y in
+    let o = read_shows image marks s cell y in
     let same = same_word (sym o.starts ∙ hidden.starts) in
     false≢true (sym o.is_open ∙ ap (λ (p : ℕ). secret (entry_of image p)) same ∙ hidden.is_secret))
 
@@ -123,7 +130,7 @@ read_hides image marks buffer s cell hidden =
 
 -- a pair of a secret partition that is shown has few zeros as it stands, and on the older guide, which shows all ones, none
 shown_least : (x : Entry) (wide : Bool) (bound word new : ℕ) → secret x ≡ true → wide ≡ true → (answer : Answer) → answer ≡ answer_of (Zeroize 0) x wide bound word new
-    → is_a_word answer ≡ true → zeros_of (shown_word answer) ≤ 64 - bound
+    → shows answer ≡ true → zeros_of (shown_word answer) ≤ 64 - bound
 shown_least x wide bound word new s w answer e y =
     ⊎_elim
     (λ (t : short bound word ≡ true). let q : answer ≡ Withheld = e ∙ rw (s, t) in absurd (false≢true (rw q at y)))
@@ -135,27 +142,27 @@ shown_least x wide bound word new s w answer e y =
     rw q (cond_keeps (λ (shown : ℕ). zeros_of shown ≤ 64 - bound) (older_guide x) all_ones word (λ _. none) (λ _. few)))
     (decided (short bound word))
 
-module _ (image marks buffer : List ℕ) (s : State) (cell : ℕ) (hidden : Secret image cell) where
+module _ (image marks : List ℕ) (s : State) (cell : ℕ) (hidden : Secret image cell) where
   found : Lookup
   found = Word hidden.partition hidden.role hidden.wide
 
   -- "Answer: the word as it now stands, or done in a secret partition": WRITE shows nothing there
-  pub write_hides : (value : ℕ) → is_a_word (direct_of image marks buffer (Write cell value) s).told ≡ false
+  pub write_hides : (value : ℕ) → shows (direct_of image marks (Write cell value) s).told ≡ false
   unfolding found carried_out
   write_hides value =
-      rw (direct_at image marks buffer (Write cell value) s hidden.starts)
-      (first_elim (λ (o : Outcome Answer State). is_a_word o.told ≡ false) (refusing Refused s)
-      (direct_tests found (Write cell value) image marks buffer s) (carried_out found (Write cell value) image marks buffer s)
+      rw (direct_at image marks (Write cell value) s hidden.starts)
+      (first_elim (λ (o : Outcome Answer State). shows o.told ≡ false) (refusing Refused s)
+      (direct_tests found (Write cell value) image marks s) (carried_out found (Write cell value) image marks s)
       (λ n _. refl)
       (λ h. rw hidden.is_secret))
 
   -- "A value given in answer to ZEROIZE from a secret partition thus has at most 64 - B zeros", on either guide
-  pub zeroize_shows : is_a_word (direct_of image marks buffer (Zeroize cell) s).told ≡ true → zeros_of (shown_word (direct_of image marks buffer (Zeroize cell) s).told) ≤ 64 - (header_of image).bound
+  pub zeroize_shows : shows (direct_of image marks (Zeroize cell) s).told ≡ true → zeros_of (shown_word (direct_of image marks (Zeroize cell) s).told) ≤ 64 - (header_of image).bound
   unfolding found carried_out
   zeroize_shows =
-      rw (direct_at image marks buffer (Zeroize cell) s hidden.starts)
-      (first_elim (λ (o : Outcome Answer State). is_a_word o.told ≡ true → zeros_of (shown_word o.told) ≤ 64 - (header_of image).bound) (refusing Refused s)
-      (direct_tests found (Zeroize cell) image marks buffer s) (carried_out found (Zeroize cell) image marks buffer s)
+      rw (direct_at image marks (Zeroize cell) s hidden.starts)
+      (first_elim (λ (o : Outcome Answer State). shows o.told ≡ true → zeros_of (shown_word o.told) ≤ 64 - (header_of image).bound) (refusing Refused s)
+      (direct_tests found (Zeroize cell) image marks s) (carried_out found (Zeroize cell) image marks s)
       (λ n _ y. absurd (false≢true y))
       (λ h y.
       let good : map_good image ≡ true = not-false _ (h 0) in
@@ -164,16 +171,16 @@ module _ (image marks buffer : List ℕ) (s : State) (cell : ℕ) (hidden : Secr
       shown_least (entry_of image hidden.partition) hidden.wide (header_of image).bound _ _ hidden.is_secret pair _ refl y))
 
   -- request P8, "In a secret partition WRITE and ZEROIZE do not show it", the number of fuses newly set, nor does READ
-  pub new_hidden : (command : Command) → cell_of command ≡ cell → tells_new (direct_of image marks buffer command s).told ≡ false
+  pub new_hidden : (command : Command) → cell_of command ≡ cell → tells_new (direct_of image marks command s).told ≡ false
   unfolding found carried_out
   new_hidden command at =
-      rw (direct_at image marks buffer command s (ap (word_at image) at ∙ hidden.starts))
+      rw (direct_at image marks command s (ap (word_at image) at ∙ hidden.starts))
       (first_elim (λ (o : Outcome Answer State). tells_new o.told ≡ false) (refusing Refused s)
-      (direct_tests found command image marks buffer s) (carried_out found command image marks buffer s)
+      (direct_tests found command image marks s) (carried_out found command image marks s)
       (λ n _. refl)
       (λ h. by command))
     where
-      by : (command : Command) → tells_new (carried_out found command image marks buffer s).told ≡ false
+      by : (command : Command) → tells_new (carried_out found command image marks s).told ≡ false
       by (Read cell) = refl
       by (Write cell value) = rw hidden.is_secret
       by (Zeroize cell) = rw hidden.is_secret (cond_keeps (λ (a : Answer). tells_new a ≡ false) (short _ _) Withheld (Shown _) (λ _. refl) (λ _. refl))

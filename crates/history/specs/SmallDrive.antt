@@ -37,7 +37,7 @@ abbrev small : List ℕ
 small = image 2 12 60 8 [] two
 
 abbrev start : State
-start = state (1 ∷ replicate 11 0) (replicate 33 0 ++ (1 ∷ 0x1_0000_0007 ∷ 0 ∷ 0 ∷ 7 ∷ []) ++ replicate 32 0)
+start = state (1 ∷ replicate 11 0) (replicate 33 0 ++ (1 ∷ 0x1_0000_0007 ∷ 0 ∷ 0 ∷ 7 ∷ []))
 
 abbrev no_marks : List ℕ
 no_marks = replicate 12 0

@@ -23,20 +23,10 @@ use Rattle.erasure.specs.Cuts.{whole_by}
 use Rattle.direct.specs.declared.Command.TheVariants.{Zeroize}
 use Rattle.direct.specs.declared.Answer.{Answer}
 use Rattle.direct.specs.declared.Answer.TheVariants.{Word as Shown, Burned, Withheld, Refused}
-use Rattle.direct.specs.Direct.{word_of, direct_tests, cells_after, new_after, told_word, carried_out, direct_by, direct_of, is_a_word}
+use Rattle.direct.specs.Direct.{word_of, direct_tests, cells_after, new_after, told_word, carried_out, direct_by, direct_of}
 use Rattle.direct.specs.Laws.{direct_at}
-use Rattle.buffer.specs.Buffer.{skipping}
-use Rattle.history.specs.Calls.{Direct, Told, Answering, Erasing, Replying, Taking, Making, Restarting, told, refusal, after}
+use Rattle.history.specs.Calls.{Direct, Told, Answering, told, refusal, after}
 use Rattle.history.specs.Refused.{refused_unchanged}
-
--- a call told a word
-abbrev pub answers_word : Told → Bool
-answers_word (Answering answer) = is_a_word answer
-answers_word (Erasing answer) = false
-answers_word (Replying reply response) = false
-answers_word (Taking answer) = false
-answers_word (Making answer) = false
-answers_word (Restarting answer buffer) = false
 
 -- a ZEROIZE that is carried out, whether its word is shown or withheld
 pub record Zeroized (image marks : List ℕ) (cell : ℕ) (before now : State) (answer : Told) : Type 0 where
@@ -49,17 +39,16 @@ pub record Zeroized (image marks : List ℕ) (cell : ℕ) (before now : State) (
   pub burned : (j : ℕ) → cell ≤ j → j < cell + cells_in wide → get_or now.cells j 0 ≡ bit_or (get_or before.cells j 0) (free (get_or marks j 0))
   pub beside : (j : ℕ) → (j < cell) ⊎ (cell + cells_in wide ≤ j) → get_or now.cells j 0 ≡ get_or before.cells j 0
   pub as_many : length now.cells ≡ length before.cells
-  -- request P9: where it answers a word the check of the partition is skipped from then on; the context is else as it was
-  pub same_context : now.context ≡ cond (answers_word answer) (skipping partition before.context) before.context
+  pub same_context : now.context ≡ before.context
   -- "Withholding stays": it is withheld exactly where the partition is secret and the word has fewer ones than B, as it stands
   pub hidden : answer ≡ Answering Withheld → (secret (entry_of image partition) ≡ true) × (ones_of (word_of wide cell now.cells) < (header_of image).bound)
   pub hides : secret (entry_of image partition) ≡ true → ones_of (word_of wide cell now.cells) < (header_of image).bound → answer ≡ Answering Withheld
 
 -- every ZEROIZE is refused, and nothing changes, or is carried out
-pub record ZeroizeLeaves (image marks buffer : List ℕ) (cell : ℕ) (s : State) : Type 0 where
-  pub refused : 1 ≤ refusal (told image marks (Direct buffer (Zeroize cell)) s) → after image marks (Direct buffer (Zeroize cell)) s ≡ s
-  pub carried : refusal (told image marks (Direct buffer (Zeroize cell)) s) ≡ 0
-      → Zeroized image marks cell s (after image marks (Direct buffer (Zeroize cell)) s) (told image marks (Direct buffer (Zeroize cell)) s)
+pub record ZeroizeLeaves (image marks : List ℕ) (cell : ℕ) (s : State) : Type 0 where
+  pub refused : 1 ≤ refusal (told image marks (Direct (Zeroize cell)) s) → after image marks (Direct (Zeroize cell)) s ≡ s
+  pub carried : refusal (told image marks (Direct (Zeroize cell)) s) ≡ 0
+      → Zeroized image marks cell s (after image marks (Direct (Zeroize cell)) s) (told image marks (Direct (Zeroize cell)) s)
 
 -- ---- the theorems
 
@@ -70,19 +59,19 @@ withheld_by true true shown new e = (refl, refl)
 withheld_by true false shown new e = let z : ◌≡◌ {A = ℕ} 0 1 = cc in absurd (omega arith)
 withheld_by false few shown new e = let z : ◌≡◌ {A = ℕ} 0 1 = cc in absurd (omega arith)
 
-module _ (image marks buffer : List ℕ) (cell : ℕ) (s : State) where
+module _ (image marks : List ℕ) (cell : ℕ) (s : State) where
   abbrev Carried : Outcome Answer State → Type 0
   Carried o = refusal (Answering o.told) ≡ 0 → Zeroized image marks cell s o.after (Answering o.told)
 
-  carried_by : (found : Lookup) → word_at image cell ≡ found → Carried (direct_by found image marks buffer (Zeroize cell) s)
+  carried_by : (found : Lookup) → word_at image cell ≡ found → Carried (direct_by found image marks (Zeroize cell) s)
   unfolding carried_out cells_after
   carried_by NoWord e =
-      let tests = direct_tests NoWord (Zeroize cell) image marks buffer s in
-      first_elim Carried (refusing Refused s) tests (carried_out NoWord (Zeroize cell) image marks buffer s)
+      let tests = direct_tests NoWord (Zeroize cell) image marks s in
+      first_elim Carried (refusing Refused s) tests (carried_out NoWord (Zeroize cell) image marks s)
       (λ n a r. absurd (not_numbered 0 tests refl a r)) (λ none r. absurd (omega arith))
   carried_by (Word i role wide) e =
-      let tests = direct_tests (Word i role wide) (Zeroize cell) image marks buffer s in
-      first_elim Carried (refusing Refused s) tests (carried_out (Word i role wide) (Zeroize cell) image marks buffer s)
+      let tests = direct_tests (Word i role wide) (Zeroize cell) image marks s in
+      first_elim Carried (refusing Refused s) tests (carried_out (Word i role wide) (Zeroize cell) image marks s)
       (λ n a r. absurd (not_numbered 0 tests refl a r))
       (λ none _.
       let good : map_good image ≡ true = not-false _ (none 0) in
@@ -112,14 +101,14 @@ module _ (image marks buffer : List ℕ) (cell : ℕ) (s : State) where
         → ((secret (entry_of image i) ≡ false) × (o.told ≡ Burned (told_of o.after) (new_fuses marks cell wide all_ones s.cells)))
         ⊎ ((secret (entry_of image i) ≡ true) × ((o.told ≡ Withheld) ⊎ (o.told ≡ Shown (told_of o.after))))
 
-    pub zeroize_answers : Answers (direct_of image marks buffer (Zeroize cell) s)
+    pub zeroize_answers : Answers (direct_of image marks (Zeroize cell) s)
     unfolding carried_out new_after
     zeroize_answers =
-        let tests = direct_tests (Word i role wide) (Zeroize cell) image marks buffer s in
+        let tests = direct_tests (Word i role wide) (Zeroize cell) image marks s in
         let now = with_cells (cells_after (Zeroize cell) wide marks s.cells) s in
         let few = short (header_of image).bound (word_of wide cell now.cells) in
-        subst Answers (sym (direct_at image marks buffer (Zeroize cell) s starts))
-        (first_elim Answers (refusing Refused s) tests (carried_out (Word i role wide) (Zeroize cell) image marks buffer s)
+        subst Answers (sym (direct_at image marks (Zeroize cell) s starts))
+        (first_elim Answers (refusing Refused s) tests (carried_out (Word i role wide) (Zeroize cell) image marks s)
         (λ n a r. absurd (not_numbered 0 tests refl a r))
         (λ none _.
         ⊎_elim
@@ -128,8 +117,8 @@ module _ (image marks buffer : List ℕ) (cell : ℕ) (s : State) where
         (λ (n : secret (entry_of image i) ≡ false). inl (n, rw n))
         (decided (secret (entry_of image i)))))
 
-  pub zeroize_leaves : ZeroizeLeaves image marks buffer cell s
+  pub zeroize_leaves : ZeroizeLeaves image marks cell s
   zeroize_leaves = record {
-    refused = refused_unchanged image marks s (Direct buffer (Zeroize cell));
-    carried = subst Carried (sym (direct_at image marks buffer (Zeroize cell) s refl)) (carried_by (word_at image cell) refl);
+    refused = refused_unchanged image marks s (Direct (Zeroize cell));
+    carried = subst Carried (sym (direct_at image marks (Zeroize cell) s refl)) (carried_by (word_at image cell) refl);
   }

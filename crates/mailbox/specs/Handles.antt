@@ -37,7 +37,7 @@ same_length e = cc
 -- a rotation leaves the cache
 pub rotated_cache : (k number : ℕ) (context : List ℕ) → cache_of (rotated_at k number context) ≡ cache_of context
 rotated_cache k number context =
-    rotated_keeps (λ (c : List ℕ). cache_of c ≡ cache_of context) (λ c i v l _ e. store_behind c i v l ∙ e) context refl k number
+    rotated_keeps (λ (c : List ℕ). cache_of c ≡ cache_of context) (λ c i v l e. store_behind c i v l ∙ e) context refl k number
 
 -- ---- without a table, as in a context of zeros, every call that passes 1 is refused 2
 

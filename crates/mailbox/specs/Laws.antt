@@ -17,7 +17,7 @@ use Rattle.drive.specs.declared.Check.TheVariants.{Ready, Refused as NotReady}
 use Rattle.drive.specs.Laws.{check_refused, check_passed}
 use Rattle.erasure.specs.declared.Answer.{Answer}
 use Rattle.erasure.specs.declared.Answer.TheVariants.{Ended, Cut, Refused as NotErased}
-use Rattle.erasure.specs.Erasure.{uncut_of, context_ended}
+use Rattle.erasure.specs.Erasure.{uncut_of}
 use Rattle.engine.specs.declared.Order.{Order}
 use Rattle.engine.specs.declared.Order.TheVariants.{Nothing}
 use Rattle.codec.specs.declared.Command.{Command}
@@ -49,21 +49,21 @@ own_allowed command image marks request s whole long table none = record {
 }
 
 -- it does what its erasure answers and leaves
-pub fers_does : (i : ℕ) {o : Outcome Answer (List ℕ)} {answer : Answer} {cells : List ℕ} {e : Effect} → outcome answer cells ≡ o → e ≡ fers_of i answer
-    → outcome e cells ≡ telling (fers_of i) o
-fers_does i {cells = cells} q f = ap (λ (e : Effect). outcome e cells) f ∙ ap (telling (fers_of i)) q
+pub fers_does : {o : Outcome Answer (List ℕ)} {answer : Answer} {cells : List ℕ} {e : Effect} → outcome answer cells ≡ o → e ≡ fers_of answer
+    → outcome e cells ≡ telling fers_of o
+fers_does {cells = cells} q f = ap (λ (e : Effect). outcome e cells) f ∙ ap (telling fers_of) q
 
 -- it orders nothing, whatever its erasure answers
-pub fers_orders : (i : ℕ) (answer : Answer) → (fers_of i answer).order ≡ Nothing
-fers_orders i (Ended short first burns new) = refl
-fers_orders i (Cut burns new) = refl
-fers_orders i (NotErased number burns) = refl
+pub fers_orders : (answer : Answer) → (fers_of answer).order ≡ Nothing
+fers_orders (Ended short first burns new) = refl
+fers_orders (Cut burns new) = refl
+fers_orders (NotErased number burns) = refl
 
--- so it changes the context as an erasure does: by its partition's flag where it has ended (request P9)
-pub fers_context : (i : ℕ) (answer : Answer) (context : List ℕ) → context_after (fers_of i answer) context ≡ context_ended i answer context
-fers_context i (Ended short first burns new) context = refl
-fers_context i (Cut burns new) context = refl
-fers_context i (NotErased number burns) context = refl
+-- so it leaves the context
+pub fers_context : (answer : Answer) (context : List ℕ) → context_after (fers_of answer) context ≡ context
+fers_context (Ended short first burns new) context = refl
+fers_context (Cut burns new) context = refl
+fers_context (NotErased number burns) context = refl
 
 -- ---- what a call does, by where its judging ends
 
@@ -151,7 +151,7 @@ pub load_only : (command : Command) (image marks request : List ℕ) (s : State)
 load_only Clkc image marks request s e = absurd (false≢true e)
 load_only Klod image marks request s e = refl
 load_only Kunl image marks request s e = absurd (false≢true e)
-load_only Fers image marks request s e = absurd (false≢true (rw (fers_orders (partition_in request) (uncut_of image s.cells marks (partition_in request)).told) at e))
+load_only Fers image marks request s e = absurd (false≢true (rw (fers_orders (uncut_of image s.cells marks (partition_in request)).told) at e))
 load_only Fsta image marks request s e = absurd (false≢true e)
 load_only Ehdl image marks request s e = absurd (false≢true e)
 load_only Rhpk image marks request s e = absurd (false≢true e)
@@ -173,15 +173,15 @@ fers_or_plain Unknown image marks request s k = absurd (false≢true k)
 abbrev OnlyRefused : Effect → Type 0
 OnlyRefused e = (e.refusal ≡ 0 → ⊥) → e ≡ refused e.refusal
 
-fers_refuses : (i : ℕ) (answer : Answer) → OnlyRefused (fers_of i answer)
-fers_refuses i (Ended short first burns new) o = absurd (o refl)
-fers_refuses i (Cut burns new) o = refl
-fers_refuses i (NotErased number burns) o = refl
+fers_refuses : (answer : Answer) → OnlyRefused (fers_of answer)
+fers_refuses (Ended short first burns new) o = absurd (o refl)
+fers_refuses (Cut burns new) o = refl
+fers_refuses (NotErased number burns) o = refl
 
 accepted_refuses : (command : Command) (image marks request : List ℕ) (s : State) → known command ≡ true → OnlyRefused (accepted command image marks request s).told
 accepted_refuses command image marks request s k =
     ⊎_elim
-    (λ (e : command ≡ Fers). rw e (fers_refuses (partition_in request) (uncut_of image s.cells marks (partition_in request)).told))
+    (λ (e : command ≡ Fers). rw e (fers_refuses (uncut_of image s.cells marks (partition_in request)).told))
     (λ plain o. absurd (o plain.0))
     (fers_or_plain command image marks request s k)
 

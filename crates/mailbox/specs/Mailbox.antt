@@ -1,4 +1,4 @@
--- Document 01, "Mailbox" and "Refusal numbers", and requests P5, P6, P8 and P9: what a call does, and what it leaves. Assumes nothing.
+-- Document 01, "Mailbox" and "Refusal numbers", and requests P5, P6 and P8: what a call does, and what it leaves. Assumes nothing.
 use Rattle.std.specs.Prelude.{ℕ, ◌≡◌, Bool, true, false, cond, not, ◌&&◌, ◌||◌, List, [], ◌∷◌, ◌++◌, eqb, ltb, length}
 use Rattle.laws.specs.Refusals.{first_of}
 use Rattle.context.specs.State.{State, with_cells, with_context, Outcome, outcome, refusing, telling}
@@ -7,7 +7,6 @@ use Rattle.drive.specs.declared.ActiveSlot.{ActiveSlot}
 use Rattle.cache.specs.Cache.{cache_of, lowest_place, has_place, busy, load_reply, unload_reply, waiting_at, clearing}
 use Rattle.cache.specs.declared.Sought.TheVariants.{Empty, Unsure, Tag}
 use Rattle.handles.specs.Handles.{Table, table_of, most, has_table, handle_at, algorithm_at, lowest_with, has_handle, used_up, next_number, rotated_at}
-use Rattle.buffer.specs.Buffer.{most as most_partitions, skipping}
 use Rattle.erasure.specs.declared.Answer.{Answer}
 use Rattle.erasure.specs.declared.Answer.TheVariants.{Ended, Cut, Refused as NotErased}
 use Rattle.erasure.specs.Erasure.{partition_tests, Erasable, uncut_of}
@@ -24,23 +23,19 @@ use Rattle.mailbox.specs.declared.effects.Effect.{Effect}
 use Rattle.mailbox.specs.declared.Reply.{Reply}
 use Rattle.mailbox.specs.declared.Reply.TheVariants.{Refused, Accepted}
 
--- ---- the effect of a command: what the engine is ordered, with the tag, the place of the table whose handle is replaced, the partition
--- that was erased, and the numbers of the response
+-- ---- the effect of a command: what the engine is ordered, with the tag, the place of the table whose handle is replaced, and the numbers
+-- of the response
 
 -- no handle is replaced
 abbrev pub no_place : ℕ
 no_place = most
 
--- no partition is erased
-abbrev pub no_partition : ℕ
-no_partition = most_partitions
-
 abbrev pub effect : Command → Order → (tag : ℕ) → Numbers → Effect
-effect command order tag numbers = record { refusal = 0; command = command; order = order; tag = tag; rotates = no_place; erased = no_partition; numbers = numbers }
+effect command order tag numbers = record { refusal = 0; command = command; order = order; tag = tag; rotates = no_place; numbers = numbers }
 
 -- "the engine order is none"
 abbrev pub refused : (number : ℕ) → Effect
-refused number = record { refusal = number; command = Unknown; order = Nothing; tag = 0; rotates = no_place; erased = no_partition; numbers = no_numbers }
+refused number = record { refusal = number; command = Unknown; order = Nothing; tag = 0; rotates = no_place; numbers = no_numbers }
 
 -- CLKC: "clear" with the timeout
 abbrev pub clear_of : (request : List ℕ) → Effect
@@ -58,13 +53,12 @@ unload_of context request =
     let tag : ℕ = tag_at (request_fields Kunl) request in
     effect Kunl (Unload (lowest_place (cache_of context) (Tag tag)) (number_at (request_fields Kunl) CmdTimeout request)) tag no_numbers
 
--- FERS of partition i, by what its erasure answers: "short pairs, first short cell" and, by request P8, the fuses newly set "as a last
--- field"; or refusal 15. It is not cut: no order reaches its cut
-abbrev pub fers_of : (i : ℕ) → Answer → Effect
-fers_of i (Ended short first burns new) =
-    record { refusal = 0; command = Fers; order = Nothing; tag = 0; rotates = no_place; erased = i; numbers = three_numbers short first new }
-fers_of i (NotErased number burns) = refused number
-fers_of i (Cut burns new) = refused 15
+-- FERS, by what its erasure answers: "short pairs, first short cell" and, by request P8, the fuses newly set "as a last field"; or refusal 15.
+-- It is not cut: no order reaches its cut
+abbrev pub fers_of : Answer → Effect
+fers_of (Ended short first burns new) = effect Fers Nothing 0 (three_numbers short first new)
+fers_of (NotErased number burns) = refused number
+fers_of (Cut burns new) = refused 15
 
 -- "HEK available 1 or 0"
 abbrev pub hek_number : ActiveSlot → ℕ
@@ -96,8 +90,7 @@ handle_in request = number_at (request_fields Rhpk) HpkeHandle request
 -- RHPK: "the lowest place with the handle is meant"; its response is "the new handle"
 abbrev pub rotation_of : Table → (request : List ℕ) → Effect
 rotation_of t request =
-    let place : ℕ = lowest_with t (handle_in request) in
-    record { refusal = 0; command = Rhpk; order = Nothing; tag = 0; rotates = place; erased = no_partition; numbers = one_number (next_number t) }
+    record { refusal = 0; command = Rhpk; order = Nothing; tag = 0; rotates = lowest_with t (handle_in request); numbers = one_number (next_number t) }
 
 -- the partition that a request of FERS names
 abbrev pub partition_in : (request : List ℕ) → ℕ
@@ -108,7 +101,7 @@ abbrev pub accepted : Command → (image marks request : List ℕ) → State →
 accepted Clkc image marks request s = outcome (clear_of request) s.cells
 accepted Klod image marks request s = outcome (load_of s.context request) s.cells
 accepted Kunl image marks request s = outcome (unload_of s.context request) s.cells
-accepted Fers image marks request s = telling (fers_of (partition_in request)) (uncut_of image s.cells marks (partition_in request))
+accepted Fers image marks request s = telling fers_of (uncut_of image s.cells marks (partition_in request))
 accepted Fsta image marks request s = outcome (status_of (active_slot image s.cells)) s.cells
 accepted Ehdl image marks request s = outcome (list_of (table_of s.context)) s.cells
 accepted Rhpk image marks request s = outcome (rotation_of (table_of s.context) request) s.cells
@@ -218,10 +211,9 @@ context_by (Clear timeout) tag context = clearing context
 context_by (Load place timeout) tag context = waiting_at place tag load_reply context
 context_by (Unload place timeout) tag context = waiting_at place tag unload_reply context
 
--- the context: as the order makes it, with the handle replaced that a rotation names, by the number that its response tells (request P6),
--- and with the check skipped of the partition that FERS has erased (request P9)
+-- the context: as the order makes it, with the handle replaced that a rotation names, by the number that its response tells (request P6)
 abbrev pub context_after : Effect → (context : List ℕ) → List ℕ
-context_after e context = skipping e.erased (rotated_at e.rotates e.numbers.first (context_by e.order e.tag context))
+context_after e context = rotated_at e.rotates e.numbers.first (context_by e.order e.tag context)
 
 -- the state: the cells as they were left, and the context
 abbrev pub state_after : Outcome Effect (List ℕ) → State → State

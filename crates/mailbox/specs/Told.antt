@@ -43,12 +43,12 @@ pub place_reads : (context request response : List ℕ)
     → let e = load_of context request in number_at (response_fields Klod e.numbers) Place (response_after e response) ≡ lowest_place (cache_of context) Empty
 place_reads context request response = response_reads Klod (one_number (lowest_place (cache_of context) Empty)) _ Place refl
 
-pub ended_reads : (i short first burns new : ℕ) (response : List ℕ)
-    → let e = fers_of i (Ended short first burns new) in
+pub ended_reads : (short first burns new : ℕ) (response : List ℕ)
+    → let e = fers_of (Ended short first burns new) in
     (number_at (response_fields Fers e.numbers) ShortPairs (response_after e response) ≡ short)
     × (number_at (response_fields Fers e.numbers) FirstShort (response_after e response) ≡ first)
     × (number_at (response_fields Fers e.numbers) NewFuses (response_after e response) ≡ new)
-ended_reads i short first burns new response =
+ended_reads short first burns new response =
     let numbers = three_numbers short first new in
     (response_reads Fers numbers _ ShortPairs refl, response_reads Fers numbers _ FirstShort refl, response_reads Fers numbers _ NewFuses refl)
 
@@ -138,11 +138,11 @@ module _ (image marks request : List ℕ) (l : Lent) where
   FersLeaves d = (n : ℕ) (order : Order) → reply_of d.told ≡ Accepted n order → LeftAsRead (response_after d.told l.response) d.after
 
   read_back : (short first burns new : ℕ) (cells : List ℕ) → LeftBy (indicator_cell image p) short first (survey_at image cells p)
-      → LeftAsRead (response_after (fers_of p (Ended short first burns new)) l.response) cells
-  read_back short first burns new cells h = let read = ended_reads p short first burns new l.response in rw (read.0, read.1) h
+      → LeftAsRead (response_after (fers_of (Ended short first burns new)) l.response) cells
+  read_back short first burns new cells h = let read = ended_reads short first burns new l.response in rw (read.0, read.1) h
 
   by_end : (end : End) (t : Tally) → LeftAs image p (answer_by end image p t) t.cells
-      → FersLeaves (telling (fers_of p) (outcome (answer_by end image p t) t.cells))
+      → FersLeaves (telling fers_of (outcome (answer_by end image p t) t.cells))
   by_end Whole t h n order e = read_back _ _ t.burns t.new _ h
   by_end Stopped t h n order e = refused_not e
   by_end CutEnd t h n order e = refused_not e
@@ -180,10 +180,10 @@ module _ (image marks : List ℕ) (code : ℕ) (request : List ℕ) (l : Lent) w
   no_unload : (n : ℕ) (cells : List ℕ) → FindsHeld (outcome (refused n) cells)
   no_unload n cells = cond_keeps (UnloadsHeld c (tag_at (request_fields Kunl) request)) (eqb n 0) (Accepted _ Nothing) (Refused n) (λ _. tt) (λ _. tt)
 
-  fers_no_unload : (i : ℕ) (answer : Answer) (cells : List ℕ) → FindsHeld (outcome (fers_of i answer) cells)
-  fers_no_unload i (Ended short first burns new) cells = tt
-  fers_no_unload i (NotErased number burns) cells = no_unload number cells
-  fers_no_unload i (Cut burns new) cells = tt
+  fers_no_unload : (answer : Answer) (cells : List ℕ) → FindsHeld (outcome (fers_of answer) cells)
+  fers_no_unload (Ended short first burns new) cells = tt
+  fers_no_unload (NotErased number burns) cells = no_unload number cells
+  fers_no_unload (Cut burns new) cells = tt
 
   finds_held : (command : Command) → known command ≡ true → ((k : ℕ) → test_at (own_tests command image request l.state) k ≡ false)
       → FindsHeld (accepted command image marks request l.state)
@@ -194,7 +194,7 @@ module _ (image marks : List ℕ) (code : ℕ) (request : List ℕ) (l : Lent) w
       let found = has_tells c (Tag tag) (not-false _ (none 0)) in
       held_place c (lowest_place c (Tag tag)) tag found.0 found.1
       (has_none c Waiting (neither (awaits c) (has_place c Waiting) (none 1)).1 _ found.0) (has_none c Unsure (none 2) _ found.0)
-  finds_held Fers k none = let done = uncut_of image l.state.cells marks (partition_in request) in fers_no_unload (partition_in request) done.told done.after
+  finds_held Fers k none = let done = uncut_of image l.state.cells marks (partition_in request) in fers_no_unload done.told done.after
   finds_held Fsta k none = tt
   finds_held Ehdl k none = tt
   finds_held Rhpk k none = tt

@@ -1,6 +1,6 @@
--- A load, its unload, a clear, a list of handles and a rotation on the small drive, each refusal where every later one applies too, and
--- the check that FERS skips, by computation. Document 01's cases are in `history` SmallDrive. Assumes nothing.
-use Rattle.std.specs.Prelude.{ℕ, ◌-◌, ◌≡◌, refl, List, [], ◌∷◌, ◌++◌, map, replicate, set}
+-- A load, its unload, a clear, a list of handles and a rotation on the small drive, and each refusal where every later one applies too, by
+-- computation. Document 01's cases are in `history` SmallDrive. Assumes nothing.
+use Rattle.std.specs.Prelude.{ℕ, ◌-◌, ◌≡◌, refl, List, [], ◌∷◌, ◌++◌, map, replicate}
 use Rattle.std.specs.Int.Count.{ones_in}
 use Rattle.laws.specs.Tests.{every}
 use Rattle.laws.specs.Below.{all_below, count_below, first_from}
@@ -9,8 +9,8 @@ use Rattle.context.specs.State.{state, Outcome, outcome}
 use Rattle.map.specs.Map.{header_good, filler_good, entry_good, place_good, map_good}
 use Rattle.map.specs.Image.{image, entry}
 use Rattle.map.specs.Vectors.{two}
-use Rattle.partition.specs.Partition.{short_at, lowest_short, marked, zero_cell, state_of}
-use Rattle.fuse.specs.Fuse.{burn_cell, burn_word, set_fuses, new_fuses}
+use Rattle.partition.specs.Partition.{short_at, marked, zero_cell, state_of}
+use Rattle.fuse.specs.Fuse.{burn_cell, burn_word}
 use Rattle.burns.specs.Run.{words_from, order, goes_on, stops_after, burns_of}
 use Rattle.erasure.specs.Erasure.{run_on}
 use Rattle.drive.specs.Drive.{whole_arrays, survey_at, slot_at, open_slot, active_slot}
@@ -21,7 +21,7 @@ use Rattle.engine.specs.declared.Order.TheVariants.{Nothing, Clear, Load, Unload
 use Rattle.codec.specs.Request.{request_tests}
 use Rattle.mailbox.specs.declared.effects.Effect.{Effect}
 use Rattle.mailbox.specs.declared.Reply.{Reply}
-use Rattle.mailbox.specs.declared.Reply.TheVariants.{Accepted, Refused}
+use Rattle.mailbox.specs.declared.Reply.TheVariants.{Accepted}
 use Rattle.mailbox.specs.Mailbox.{refused, done_of, Lent, lent, mailbox_of}
 
 -- a call, by computation: to unfold this is to unfold all that it computes with
@@ -36,10 +36,9 @@ small = image 2 12 60 8 [] two
 abbrev cells : List ℕ
 cells = 1 ∷ replicate 11 0
 
--- a table of one handle, 7, with algorithm 1: the count, three entries and the greatest number given; behind it the numbers beside the
--- buffer, all 0
+-- a table of one handle, 7, with algorithm 1: the count, three entries and the greatest number given
 abbrev table : List ℕ
-table = 1 ∷ 0x1_0000_0007 ∷ 0 ∷ 0 ∷ 7 ∷ zeros 32
+table = 1 ∷ 0x1_0000_0007 ∷ 0 ∷ 0 ∷ 7 ∷ []
 
 -- contexts, the kinds of 16 places, their tags, the awaited reply and the table: every place empty, and the tag 0x100000002 in the first
 abbrev no_key : (awaited : ℕ) → List ℕ
@@ -82,7 +81,7 @@ clear = refl
 
 -- the greatest given is 100; the handle 5 stands twice, at the places 0 and 2; the algorithm of place 1 is all ones
 abbrev three : (first greatest : ℕ) → List ℕ
-three first greatest = zeros 33 ++ (3 ∷ first ∷ 0xFFFF_FFFF_0000_0007 ∷ 0x4_0000_0005 ∷ greatest ∷ zeros 32)
+three first greatest = zeros 33 ++ (3 ∷ first ∷ 0xFFFF_FFFF_0000_0007 ∷ 0x4_0000_0005 ∷ greatest ∷ [])
 
 -- EHDL and RHPK of handle 5
 abbrev lists : (context : List ℕ) → Outcome Reply Lent
@@ -114,7 +113,7 @@ rotation_0 = refl
 
 rotation_2 :
     rotates (three 0x2_0000_0065 101)
-    ≡ tells 16 (zeros 33 ++ (3 ∷ 0x2_0000_0065 ∷ 0xFFFF_FFFF_0000_0007 ∷ 0x4_0000_0066 ∷ 102 ∷ zeros 32)) (bytes4 0xFFFF_FF9A ++ bytes4 0 ++ bytes4 0 ++ bytes4 102)
+    ≡ tells 16 (zeros 33 ++ (3 ∷ 0x2_0000_0065 ∷ 0xFFFF_FFFF_0000_0007 ∷ 0x4_0000_0066 ∷ 102 ∷ [])) (bytes4 0xFFFF_FF9A ++ bytes4 0 ++ bytes4 0 ++ bytes4 102)
 unfolding runs
 rotation_2 = refl
 
@@ -143,7 +142,7 @@ abbrev rhpk_5 : List ℕ
 rhpk_5 = bytes4 0xFFFF_FEC6 ++ bytes4 0 ++ bytes4 5
 
 abbrev spent : (awaited past : ℕ) → List ℕ
-spent awaited past = zeros 32 ++ (awaited ∷ 1 ∷ 4 ∷ past ∷ 0 ∷ 0xFFFF_FFFF ∷ zeros 32)
+spent awaited past = zeros 32 ++ (awaited ∷ 1 ∷ 4 ∷ past ∷ 0 ∷ 0xFFFF_FFFF ∷ [])
 
 -- a KUNL of tag 3
 abbrev kunl_3 : List ℕ
@@ -154,7 +153,7 @@ refusals :
     does [] cells (full 2) 0 [] 0 0
     -- 2 for the cells, the block, the buffer and the table, of no handle and of four
     ∷ does small [] (full 2) 0 [] 40 128 ∷ does small cells (full 2) 0 [] 40 127 ∷ does small cells (full 2) 0 [] 39 128
-    ∷ does small cells (zeros 70) 0 [] 40 128 ∷ does small cells (zeros 33 ++ (4 ∷ zeros 36)) 0 [] 40 128
+    ∷ does small cells (zeros 38) 0 [] 40 128 ∷ does small cells (zeros 33 ++ (4 ∷ zeros 4)) 0 [] 40 128
     -- 3 to 6
     ∷ does small erased (full 2) 0 (0 ∷ []) 40 128
     ∷ does small erased (full 2) 0x4B4C_4F44 (klod 0 1 ++ (0 ∷ [])) 40 128
@@ -193,37 +192,15 @@ refusals :
 unfolding runs
 refusals = refl
 
--- a slot and a partition that is no slot; FERS of the second
-abbrev both : List ℕ
-both = image 2 12 60 8 [] (entry 0 6 0 7 ++ entry 6 6 0 1)
-
-abbrev fers_of_1 : List ℕ
-fers_of_1 = bytes4 0xFFFF_FECF ++ bytes4 0 ++ bytes4 1
-
--- with every fuse of its indicator stuck: 17 while a reply is awaited, before any burn, else 15
+-- FERS of a partition that is no slot, every fuse of its indicator stuck: 17 while a reply is awaited, before any burn, else 15
 abbrev fers_1 : (awaited : ℕ) → Outcome Effect (List ℕ)
-fers_1 awaited = done_of both (replicate 10 0 ++ replicate 2 0xFFFF_FFFF) 0x4645_5253 fers_of_1 40 128 (state cells (no_key awaited))
+fers_1 awaited =
+    done_of (image 2 12 60 8 [] (entry 0 6 0 7 ++ entry 6 6 0 1)) (replicate 10 0 ++ replicate 2 0xFFFF_FFFF) 0x4645_5253 (bytes4 0xFFFF_FECF ++ bytes4 0 ++ bytes4 1) 40 128
+    (state cells (no_key awaited))
 
 fers : map fers_1 (3 ∷ 0 ∷ []) ≡ outcome (refused 17) cells ∷ outcome (refused 15) cells ∷ []
 unfolding runs run_on burns_of order words_from stops_after goes_on burn_word burn_cell
 fers = refl
-
--- request P9: FERS that ended skips the check of its partition, by word 54 + 1; one refused with 15 leaves all
-abbrev before : Lent
-before = lent (state cells (no_key 0)) (replicate 40 9) (replicate 128 7)
-
-abbrev erases : (stuck : ℕ) → Outcome Reply Lent
-erases stuck = runs both (replicate 10 0 ++ replicate 2 stuck) 0x4645_5253 fers_of_1 before
-
-skips :
-    map erases (0 ∷ 0xFFFF_FFFF ∷ [])
-    ≡ outcome (Accepted 24 Nothing)
-    (lent (state (1 ∷ zeros 5 ++ replicate 6 0xFFFF_FFFF) (set (no_key 0) 55 1))
-    (bytes4 0xFFFF_FB44 ++ bytes4 0 ++ bytes4 0 ++ bytes4 0 ++ bytes4 0xFFFF_FFFF ++ bytes4 192 ++ replicate 16 9) (replicate 128 7))
-    ∷ outcome (Refused 15) before
-    ∷ []
-unfolding runs run_on burns_of order words_from stops_after goes_on burn_word burn_cell new_fuses set_fuses lowest_short
-skips = refl
 
 -- FSTA alone is carried out while a reply is awaited, a place waits and another is unsure
 waits : (does small cells (full 3) 0x4653_5441 (bytes4 0xFFFF_FED2 ++ bytes4 0) 40 128).refusal ≡ 0

@@ -1,7 +1,7 @@
 // What a command of the mailbox does, found where nothing refuses it, or its refusal: what is ordered, what
-// is rotated, what was erased and the numbers of the response. FERS alone changes something here, the fuses. The
-// definitions are in `specs/Mailbox`. It rests on `codec`, `engine`, `cache`, `handles`, `buffer`, `drive`
-// and `erasure`, and on the array of `context`.
+// is rotated and the numbers of the response. FERS alone changes something here, the fuses. The
+// definitions are in `specs/Mailbox`. It rests on `codec`, `engine`, `cache`, `handles`, `drive` and
+// `erasure`, and on the array of `context`.
 ghost use Rattle.std.specs.Prelude.{◌≡◌, true, false};
 ghost use Rattle.context.specs.State.{state, outcome};
 ghost use Rattle.handles.specs.Handles.{table_of, has_table, used_up};
@@ -17,9 +17,8 @@ use engine::Order;
 use erasure::Answer;
 
 // What a command does that is not refused: what the engine is ordered, with the tag, the place of the
-// table whose handle is replaced by the first number (3: none), the partition that was erased (16: none),
-// and the numbers of the response after reserved. A refusal has its number, orders, replaces and has erased
-// nothing and is not responded.
+// table whose handle is replaced by the first number (3: none), and the numbers of the response after
+// reserved. A refusal has its number, orders and replaces nothing and is not responded.
 #[derive(Drop)]
 pub struct Effect {
     pub refusal: u32,
@@ -27,7 +26,6 @@ pub struct Effect {
     pub order: Order,
     pub tag: u64,
     pub rotates: u32,
-    pub erased: u32,
     pub numbers: Numbers,
 }
 
@@ -41,7 +39,6 @@ fn effect_with(command: Command, order: Order, tag: u64, numbers: Numbers) -> Ef
         order: order,
         tag: tag,
         rotates: handles::MOST,
-        erased: buffer::MOST,
         numbers: numbers,
     }
 }
@@ -56,7 +53,6 @@ pub fn refuse(number: u32) -> Effect
         order: Order::Nothing,
         tag: 0,
         rotates: handles::MOST,
-        erased: buffer::MOST,
         numbers: codec::no_numbers(),
     }
 }
@@ -90,10 +86,9 @@ fn unload_effect(context: &Context, request: &[u8]) -> Effect
     effect_with(Command::Kunl, order, tag, codec::no_numbers())
 }
 
-// What FERS of partition `i` does, by what its erasure answered. No order reaches its cut: the last case
-// does not happen.
-fn fers_effect(i: u32, answer: Answer) -> Effect
-    ensures { result ≡ fers_of i answer }
+// What FERS does, by what its erasure answered. No order reaches its cut: the last case does not happen.
+fn fers_effect(answer: Answer) -> Effect
+    ensures { result ≡ fers_of answer }
 {
     match answer {
         Answer::Ended {
@@ -101,15 +96,12 @@ fn fers_effect(i: u32, answer: Answer) -> Effect
             first,
             burns: _,
             new,
-        } => Effect {
-            refusal: 0,
-            command: Command::Fers,
-            order: Order::Nothing,
-            tag: 0,
-            rotates: handles::MOST,
-            erased: i,
-            numbers: codec::three_numbers(short, first, new),
-        },
+        } => effect_with(
+            Command::Fers,
+            Order::Nothing,
+            0,
+            codec::three_numbers(short, first, new),
+        ),
         Answer::Refused { number, burns: _ } => refuse(number),
         Answer::Cut { burns: _, new: _ } => refuse(15),
     }
@@ -174,7 +166,6 @@ fn rotate_effect(context: &Context, request: &[u8]) -> Effect
         order: Order::Nothing,
         tag: 0,
         rotates: handles::lowest_with(context, codec::handle_of(request)),
-        erased: buffer::MOST,
         numbers: codec::one_number(handles::next_number(context)),
     }
 }
@@ -198,10 +189,7 @@ pub fn carry_out(
         Command::Kunl => unload_effect(context, request),
         Command::Fers => {
             let partition = codec::partition_of(request);
-            fers_effect(
-                partition,
-                erasure::erase_judged(image, cells, marks, partition),
-            )
+            fers_effect(erasure::erase_judged(image, cells, marks, partition))
         }
         Command::Fsta => status_effect(image, cells),
         Command::Ehdl => list_effect(context),

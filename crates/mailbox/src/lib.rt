@@ -4,7 +4,7 @@
 // FERS burns there); then it is written out unless it is refused: a refusal changes nothing, 15 of FERS
 // too, whose burn has set no fuse. `call` answers for any bytes and any lengths. The definitions are in
 // `specs/Mailbox`, the laws in `specs/Judging`, `Laws`, `Told` and `Handles`. It rests on `codec`,
-// `engine`, `erasure`, `handles`, `buffer` and what lies below them.
+// `engine`, `erasure`, `handles` and what lies below them.
 mod effects;
 mod judge;
 
@@ -93,7 +93,6 @@ fn update_context(context: &mut Context, effect: Effect)
     await_reply(context, order, effect.tag);
     let numbers = effect.numbers;
     handles::rotate(context, effect.rotates, numbers.first);
-    buffer::skip(context, effect.erased);
 }
 
 // Writes the engine block of an order. An empty part of the request is no key: its MEK is all zero.

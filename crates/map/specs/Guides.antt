@@ -11,7 +11,7 @@ use Rattle.laws.specs.Below.{all_below, all_at, all_holds, fails_at}
 use Rattle.endian.specs.Endian.{byte_at, u16_at}
 use Rattle.map.specs.declared.Header.{Header}
 use Rattle.map.specs.declared.Entry.{Entry}
-use Rattle.map.specs.Map.{header_of, entry_place, entry_at, entry_of, zeroizable, secret, slot, older_guide, buffered}
+use Rattle.map.specs.Map.{header_of, entry_place, entry_at, entry_of, zeroizable, secret, slot, older_guide}
 use Rattle.map.specs.Map.{filler_good, entry_good, end_before, place_good, map_good}
 use Rattle.map.specs.Laws.{good_so_far, map_parts, map_fillers, map_header, map_entry}
 
@@ -53,9 +53,6 @@ bit_2 f = omega arith
 bit_4 : (f : ℕ) → without8 f / 4 % 2 ≡ f / 4 % 2
 bit_4 f = omega arith
 
-bit_16 : (f : ℕ) → without8 f / 16 % 2 ≡ f / 16 % 2
-bit_16 f = omega arith
-
 higher : (f : ℕ) → without8 f / 16 ≡ f / 16
 higher f = omega arith
 
@@ -72,17 +69,14 @@ module _ {x y : Entry} (s : SameBut8 x y) where
   pub same_slot : slot y ≡ slot x
   same_slot = ap (λ (b : ℕ). eqb b 1) (same_by (λ f. f / 4 % 2) bit_4)
 
-  pub same_buffered : buffered y ≡ buffered x
-  same_buffered = ap (λ (b : ℕ). eqb b 1) (same_by (λ f. f / 16 % 2) bit_16)
-
   -- the other keeps the rules where this one does and flag 8 stands right
-  entry_same : (before cells spare : ℕ) → x.flags ≤ 31 → right8 y ≡ right8 x
+  entry_same : (before cells spare : ℕ) → x.flags ≤ 15 → right8 y ≡ right8 x
       → entry_good before cells y spare ≡ entry_good before cells x spare
   unfolding entry_good
   entry_same before cells spare low e =
       let high : y.flags / 16 ≡ x.flags / 16 = same_by (λ f. f / 16) higher in
-      let a : y.flags ≤ 31 = omega (arith, high) in
-      rw (e, s.first, s.n, s.kind, same_zeroizable, same_secret, same_slot, le-leb y.flags 31 a, le-leb x.flags 31 low)
+      let a : y.flags ≤ 15 = omega (arith, high) in
+      rw (e, s.first, s.n, s.kind, same_zeroizable, same_secret, same_slot, le-leb y.flags 15 a, le-leb x.flags 15 low)
 
 -- ---- what two such images have in common
 
@@ -144,7 +138,7 @@ module _ (image other : List ℕ) (d : Differ8 image other) (low : 8 ≤ (header
   unfolding filler_good
   filler_same k l = rw (head_byte k l)
 
-  place_good_lem : (i : ℕ) → (entry_of image i).flags ≤ 31
+  place_good_lem : (i : ℕ) → (entry_of image i).flags ≤ 15
       → right8 (entry_of other i) ≡ right8 (entry_of image i)
       → place_good other i ≡ place_good image i
   unfolding place_good

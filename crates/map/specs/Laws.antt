@@ -1,6 +1,6 @@
 -- The map's laws: first what the proofs of the check cite, then what a good map gives its callers, as records of facts on numbers.
 -- Assumes nothing.
-use Rattle.std.specs.Prelude.{ℕ, zero, suc, ◌+◌, ◌-◌, ◌*◌, ◌/◌, ◌%◌, ◌≤◌, ◌<◌, ◌≡◌, Bool, true, false, ◌&&◌, List, length, take, drop, eqb}
+use Rattle.std.specs.Prelude.{ℕ, zero, suc, ◌+◌, ◌-◌, ◌*◌, ◌%◌, ◌≤◌, ◌<◌, ◌≡◌, Bool, true, false, ◌&&◌, List, length, take, drop, eqb}
 use Rattle.std.proofs.Common.{⊎_elim, arith, add-one, not-suc-le-zero, eq-or-lt_of_le, le_of_suc-le-suc, leb-true, eqb-true, le-ltb, le-leb, eq-eqb, ne_eqb}
 use Rattle.std.proofs.Math.Bool.{and-false}
 use Rattle.laws.specs.Tests.{and, implies, not_both, every, every_at}
@@ -104,7 +104,7 @@ rules_header h len r =
 
 pub record EntryRules (before cells : ℕ) (x : Entry) : Type 0 where
   pub kind_known : x.kind ≤ 2
-  pub flags_known : x.flags ≤ 31
+  pub flags_known : x.flags ≤ 15
   pub first_even : x.first % 2 ≡ 0
   pub n_even : x.n % 2 ≡ 0
   pub n_least : 4 ≤ x.n
@@ -137,24 +137,6 @@ entry_rules before cells x spare g =
       slot_secret = λ z. (both z).1;
       older_zeroizable = λ z. implies _ _ (rule 12) z;
     }
-
-even_more : (n k : ℕ) → (n + 2 * k) % 2 ≡ n % 2
-even_more n k = omega arith
-
--- request P9, "1 no longer for flag 16": an entry without it keeps the rules exactly where it does so with it
-pub sixteen_free : (before cells first n kind flags spare : ℕ) → flags ≤ 15
-    → entry_good before cells (record { first = first; n = n; kind = kind; flags = flags + 16 }) spare
-    ≡ entry_good before cells (record { first = first; n = n; kind = kind; flags = flags }) spare
-unfolding entry_good
-sixteen_free before cells first n kind flags spare low =
-    let a : (flags + 16) % 2 ≡ flags % 2 = omega arith in
-    let half : (flags + 16) / 2 ≡ flags / 2 + 8 = omega arith in
-    let quarter : (flags + 16) / 4 ≡ flags / 4 + 4 = omega arith in
-    let eighth : (flags + 16) / 8 ≡ flags / 8 + 2 = omega arith in
-    let b : (flags + 16) / 2 % 2 ≡ flags / 2 % 2 = rw half (even_more (flags / 2) 4) in
-    let d : (flags + 16) / 4 % 2 ≡ flags / 4 % 2 = rw quarter (even_more (flags / 4) 2) in
-    let e : (flags + 16) / 8 % 2 ≡ flags / 8 % 2 = rw eighth (even_more (flags / 8) 1) in
-    rw (le-leb (flags + 16) 31 (omega arith), le-leb flags 31 (omega arith), a, b, d, e)
 
 pub map_parts : (s : List ℕ) → map_good s ≡ true → (header_good (header_of s) (length s) ≡ true) × (all_below (place_good s) (header_of s).partitions ≡ true)
 unfolding map_good

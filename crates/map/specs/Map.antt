@@ -1,4 +1,4 @@
--- Document 01, "The map of the fuses", with requests P7 and P9: what an image says, and the rules of a good one, a line each in the document's
+-- Document 01, "The map of the fuses", with request P7: what an image says, and the rules of a good one, a line each in the document's
 -- order. Assumes nothing.
 use Rattle.std.specs.Prelude.{ℕ, ◌+◌, ◌-◌, ◌*◌, ◌/◌, ◌%◌, Bool, cond, ◌&&◌, ◌||◌, not, List, [], ◌∷◌, length, eqb, leb, ltb}
 use Rattle.endian.specs.Endian.{byte_at, u16_at}
@@ -51,10 +51,6 @@ slot x = eqb (x.flags / 4 % 2) 1
 abbrev pub older_guide : Entry → Bool
 older_guide x = eqb (x.flags / 8 % 2) 1
 
--- request P9: "Flag 16 marks a buffered partition", any partition
-abbrev pub buffered : Entry → Bool
-buffered x = eqb (x.flags / 16 % 2) 1
-
 -- the rules of the header, for an image of len bytes
 unfoldable pub header_good : Header → (len : ℕ) → Bool
 header_good h len =
@@ -85,8 +81,8 @@ entry_good before cells x spare =
     every (
     -- kind is 0, 1 or 2
     leb x.kind 2
-    -- bits of flags higher than 16 are zero: "1 no longer for flag 16" (P9)
-    ∷ leb x.flags 31
+    -- bits of flags higher than 8 are zero
+    ∷ leb x.flags 15
     -- "two zero bytes"
     ∷ eqb spare 0
     -- "First and n are even"

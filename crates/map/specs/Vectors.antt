@@ -39,8 +39,8 @@ broken =
     -- overlap by two, end past C, descending
     ∷ image 2 12 60 8 [] (entry 0 6 0 7 ++ entry 4 6 1 0) ∷ image 2 12 60 8 [] (entry 0 6 0 7 ++ entry 6 8 1 0)
     ∷ image 2 12 60 8 [] (entry 6 6 1 0 ++ entry 0 6 0 7)
-    -- kind 3, flag 32
-    ∷ one (entry 0 6 3 0) ∷ one (entry 0 6 0 32)
+    -- kind 3, flag 16
+    ∷ one (entry 0 6 3 0) ∷ one (entry 0 6 0 16)
     -- life cycle zeroizable, secret in kind 1, slot without secret, slot without zeroizable
     ∷ one (entry 0 6 2 1) ∷ one (entry 0 6 1 2) ∷ one (entry 0 6 0 5) ∷ one (entry 0 6 0 6)
     -- request P7, flag 8 where nothing is zeroizable: alone in each kind, and with secret; with 1 in life cycle, which is never zeroizable
@@ -62,14 +62,12 @@ edges =
     ∷ image 2 14 60 8 [] (entry 0 6 0 7 ++ entry 8 6 1 0) ∷ one (entry 0 4 0 0) ∷ one (entry 0 6 2 0) ∷ one (entry 0 6 1 1)
     -- request P7: flag 8 with 1, in kinds 0 and 1; with 1 and 2; with 7
     ∷ one (entry 0 6 0 9) ∷ one (entry 0 6 1 9) ∷ one (entry 0 6 0 11) ∷ one (entry 0 6 0 15)
-    -- request P9: flag 16 alone in each kind, with 1 in software, with all
-    ∷ one (entry 0 6 0 16) ∷ one (entry 0 6 1 16) ∷ one (entry 0 4 2 16) ∷ one (entry 0 6 1 17) ∷ one (entry 0 6 0 31)
     ∷ []
 
 -- an image that is empty or cut is no map
 cut : List (List ℕ)
 cut = [] ∷ (2 ∷ []) ∷ (2 ∷ 0 ∷ 12 ∷ 0 ∷ 60 ∷ 0 ∷ 8 ∷ []) ∷ image 2 12 60 8 [] [] ∷ []
 
-rules : (map map_good broken ≡ replicate 32 false) × (map map_good edges ≡ replicate 21 true) × (map map_good cut ≡ replicate 4 false)
+rules : (map map_good broken ≡ replicate 32 false) × (map map_good edges ≡ replicate 16 true) × (map map_good cut ≡ replicate 4 false)
 unfolding broken edges cut map_good every header_good filler_good entry_good place_good all_below u16_at
 rules = (refl, refl, refl)

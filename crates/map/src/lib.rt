@@ -4,7 +4,7 @@
 // in flag 8 alone have in common in `specs/Guides`. It rests on `endian` and `laws`.
 ghost use Rattle.std.specs.Prelude.{◌≡◌, ◌+◌, ◌*◌, ◌^◌, ◌<◌, ◌≤◌, length};
 ghost use Rattle.laws.specs.Below.{all_below};
-ghost use Rattle.map.specs.Map.{header_of, entry_at, entry_of, end_of, software, zeroizable, secret, slot, older_guide, buffered};
+ghost use Rattle.map.specs.Map.{header_of, entry_at, entry_of, end_of, software, zeroizable, secret, slot, older_guide};
 ghost use Rattle.map.specs.Map.{header_good, filler_good, entry_good, place_good, map_good};
 
 // The four numbers at the start of an image.
@@ -115,13 +115,6 @@ pub fn is_on_older_guide(x: Entry) -> bool
     x.flags / 8 % 2 == 1
 }
 
-// Whether a partition is buffered: READ answers from the buffer.
-pub fn is_buffered(x: Entry) -> bool
-    ensures { result ≡ buffered x }
-{
-    x.flags / 16 % 2 == 1
-}
-
 // Whether the header of an image of `len` bytes keeps its rules.
 fn header_good(h: Header, len: usize) -> bool
     ensures { result ≡ header_good h len }
@@ -163,7 +156,7 @@ fn entry_good(before: usize, cells: u16, x: Entry, spare: u16) -> bool
     let older = is_on_older_guide(x);
     let end = end_of(x);
     (x.kind <= 2)
-        & (x.flags <= 31)
+        & (x.flags <= 15)
         & (spare == 0)
         & (x.first % 2 == 0)
         & (x.n % 2 == 0)

@@ -3,7 +3,6 @@
 use Rattle.std.specs.Prelude.{ℕ, ◌≡◌, refl, true, false, List, [], ◌∷◌, ◌++◌, replicate}
 use Rattle.std.specs.Int.Count.{ones_in}
 use Rattle.laws.specs.Below.{all_below, count_below, first_from}
-use Rattle.fuse.specs.Fuse.{set_fuses}
 use Rattle.partition.specs.Partition.{short_at, lowest_short, counted, marked, zero_cell, state_of, survey_of, torn_pair}
 use Rattle.partition.specs.declared.Lowest.TheVariants.{Cell, Nothing}
 use Rattle.partition.specs.declared.State.TheVariants.{Erased, Torn, Blank, Programmed}
@@ -41,11 +40,6 @@ indicator_59 : (counted true 60 (weak_indicator 0xFFFF_FFE0) ≡ false) × (surv
     × (lowest_short 60 (weak_indicator 0xFFFF_FFE0) ≡ Cell 30)
 unfolding state_of counted marked short_at count_below lowest_short first_from ones_in
 indicator_59 = (refl, refl, refl)
-
--- request P9: by 60 of 64 it is counted, but none is that is not zeroizable; and the ones of all the cells, told of a buffered copy
-counted_60 : (counted true 60 (weak_indicator 0xFFFF_FFF0) ≡ true) × (counted false 60 (full 32) ≡ false) × (set_fuses (weak 0xFFFF_FFE0) ≡ 1019)
-unfolding counted short_at set_fuses ones_in
-counted_60 = (refl, refl, refl)
 
 -- 59 of 64 in pair 3 and in the indicator: torn by pair 3
 both_59 : (survey_of true 60 (full 7 ++ (0xFFFF_FFE0 ∷ full 23 ++ (0xFFFF_FFE0 ∷ []))) ≡ record { state = Torn; short = 2 })

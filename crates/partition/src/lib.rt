@@ -1,12 +1,10 @@
-// One partition's cells, from where the partition starts: its short pairs, whether it is marked or counted
-// as zeroized, its state, and its ones. Each pair is counted whole against the bound; what is judged is
-// never summed over the partition. The definitions are in `specs/Partition`, the laws for callers in
-// `specs/Laws`, those of marked, and of the states by it, in `specs/Marked`. It rests on `fuse` and `laws`.
-// Every public function answers for any number of cells, but `ones_of` for at most 2,048 and `pair_at` for
-// a pair that there is.
+// One partition's cells, from where the partition starts: its short pairs, whether it is marked, and
+// its state. Each pair is counted whole against the bound; nothing is summed over the partition. The
+// definitions are in `specs/Partition`, the laws for callers in `specs/Laws`, those of marked, and of
+// the states by it, in `specs/Marked`. It rests on `fuse` and `laws`. Every public function answers for
+// any number of cells.
 ghost use Rattle.std.specs.Prelude.{◌≡◌, ◌+◌, ◌*◌, ◌<◌, ◌≤◌, length};
-ghost use Rattle.fuse.specs.Fuse.{set_fuses};
-ghost use Rattle.partition.specs.Partition.{pair_at, short_at, short_pairs, lowest_pair, lowest_short, shorts_of, counted, marked, tail, no_data, survey_of};
+ghost use Rattle.partition.specs.Partition.{pair_at, short_at, short_pairs, lowest_pair, lowest_short, shorts_of, marked, tail, no_data, survey_of};
 ghost use Rattle.partition.specs.Partition.{SomeBesides, torn_pair};
 
 // The first cell of the lowest short pair, counted from the partition's start.
@@ -47,7 +45,7 @@ pub struct Survey {
 }
 
 // Pair `j`.
-pub fn pair_at(part: &[u32], j: usize) -> u64
+fn pair_at(part: &[u32], j: usize) -> u64
     requires { 2 * j + 1 < length part.now }
     ensures { result ≡ pair_at part.now j }
 {
@@ -146,35 +144,6 @@ pub fn is_marked(part: &[u32], zeroizable: bool) -> bool
         return false;
     }
     pair_at(part, pairs - 1) != 0
-}
-
-// Whether a partition is counted as zeroized: it is zeroizable and its indicator, the last pair, is not
-// short.
-pub fn is_counted(part: &[u32], bound: u64, zeroizable: bool) -> bool
-    ensures { result ≡ counted zeroizable bound part.now }
-{
-    let pairs = part.len() / 2;
-    if !zeroizable {
-        return false;
-    }
-    if pairs < 1 {
-        return false;
-    }
-    !short_at(part, pairs - 1, bound)
-}
-
-// The number of ones: of set fuses.
-pub fn ones_of(part: &[u32]) -> u64
-    requires { length part.now ≤ 2048 }
-    ensures { result ≡ set_fuses part.now }
-{
-    let mut ones: u64 = 0;
-    let mut k: usize = 0;
-    while k < part.len() {
-        ones += u32::count_ones(part[k]) as u64;
-        k += 1;
-    }
-    ones
 }
 
 // The cells from the digest on: digest and indicator of a zeroizable partition, the digest of any

@@ -87,5 +87,5 @@ module _ (p : Plan) where
       let count : (header_of (image_of p)).partitions ≡ length p.entries = ap (λ (h : Header). h.partitions) image_header in
       let rules = map_entry (image_of p) g found.0 (rw count found.1) in
       let kind : (entry_in p found.0).kind ≤ 2 = subst (λ (x : Entry). x.kind ≤ 2) is rules.kind_known in
-      let flags : (entry_in p found.0).flags ≤ 31 = subst (λ (x : Entry). x.flags ≤ 31) is rules.flags_known in
+      let flags : (entry_in p found.0).flags ≤ 15 = subst (λ (x : Entry). x.flags ≤ 15) is rules.flags_known in
       false≢true (sym found.2 ∙ rw (le-ltb 255 (entry_in p found.0).kind (omega arith), le-ltb 255 (entry_in p found.0).flags (omega arith))))

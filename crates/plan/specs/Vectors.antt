@@ -53,14 +53,6 @@ guides :
 unfolding writing_of has_form plan_of read_of image_of flat_map map_good every header_good filler_good entry_good place_good all_below u16_at
 guides = refl
 
--- request P9, flag 16: alone in each kind, with all others; 32 is none
-buffers :
-    map (told 136)
-    (text "12 60\n0 6 0 31\n6 6 1 16\n" ∷ text "12 60\n0 6 2 16\n" ∷ text "12 60\n0 6 0 24\n" ∷ text "12 60\n0 6 0 32\n" ∷ [])
-    ≡ Written 24 ∷ Written 16 ∷ replicate 2 (Refused 1)
-unfolding writing_of has_form plan_of read_of image_of flat_map map_good every header_good filler_good entry_good place_good all_below u16_at
-buffers = refl
-
 -- the room: one byte short, and none; just enough; of a map that breaks a rule too, 16 comes before 1
 rooms :
     map (λ (r : ℕ × List ℕ). told r.0 r.1)

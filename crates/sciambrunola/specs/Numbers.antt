@@ -1,15 +1,10 @@
 -- The answers as numbers, for C: each case of a partition's fields, a map's text, a listing, a reason, a place, a table that is made, an
--- answer, a reply, an engine order, a restart, a check, the numbers beside the buffer; and the engine's reply from its number. Assumes nothing.
+-- answer, a reply, an engine order; and the engine's reply from its number. Assumes nothing.
 use Rattle.std.specs.Prelude.{ℕ, cond, eqb}
 use Rattle.cache.specs.declared.Place.{Place}
 use Rattle.cache.specs.declared.Place.TheVariants.{Empty, Waiting, Held, Unsure}
 use Rattle.handles.specs.declared.Answer.{Answer as Making}
 use Rattle.handles.specs.declared.Answer.TheVariants.{Made, Refused as NotMade}
-use Rattle.buffer.specs.declared.BufferNumbers.{BufferNumbers}
-use Rattle.restart.specs.declared.Answer.{Answer as Restarting}
-use Rattle.restart.specs.declared.Answer.TheVariants.{Restarted, Refused as NotRestarted}
-use Rattle.consistency.specs.declared.Verdict.{Verdict}
-use Rattle.consistency.specs.declared.Verdict.TheVariants.{Skipped, Agrees, Differs, Refused as NotChecked}
 use Rattle.engine.specs.declared.Order.{Order}
 use Rattle.engine.specs.declared.Order.TheVariants.{Nothing, Clear, Load, Unload}
 use Rattle.engine.specs.declared.EngineReply.{EngineReply}
@@ -40,8 +35,6 @@ use Rattle.sciambrunola.specs.declared.numbers.SciPlace.{SciPlace}
 use Rattle.sciambrunola.specs.declared.numbers.SciAnswer.{SciAnswer}
 use Rattle.sciambrunola.specs.declared.numbers.SciErasure.{SciErasure}
 use Rattle.sciambrunola.specs.declared.numbers.SciReply.{SciReply}
-use Rattle.sciambrunola.specs.declared.buffers.SciConsistency.{SciConsistency}
-use Rattle.sciambrunola.specs.declared.buffers.SciNumbers.{SciNumbers}
 
 -- the header's P, C and B, then the entry's "first cell", "cells n", kind and flags
 abbrev pub fields_numbers : Reading → SciFields
@@ -122,19 +115,3 @@ taken_number (NotTaken number) = number
 abbrev pub made_number : Making → ℕ
 made_number Made = 0
 made_number (NotMade number) = number
-
--- request P9, a restart: that it was carried out, or the refusal's number
-abbrev pub restarted_number : Restarting → ℕ
-restarted_number Restarted = 0
-restarted_number (NotRestarted number) = number
-
--- "skipped, agrees, or the first pair where buffer and fuses differ", the pair by its first cell
-abbrev pub consistency_numbers : Verdict → SciConsistency
-consistency_numbers Skipped = record { kind = 0; refusal = 0; cell = 0 }
-consistency_numbers Agrees = record { kind = 1; refusal = 0; cell = 0 }
-consistency_numbers (Differs cell) = record { kind = 2; refusal = 0; cell = cell }
-consistency_numbers (NotChecked number) = record { kind = 3; refusal = number; cell = 0 }
-
--- the numbers beside the buffer: 1 where the check is skipped, else 0
-abbrev pub buffer_numbers : BufferNumbers → SciNumbers
-buffer_numbers numbers = record { ones = numbers.ones; skipped = cond numbers.skipped 1 0 }

@@ -1,22 +1,18 @@
 // What C and Rust call, in a static archive: a map's fields, a map from its text, the states, the
 // reason why no HEK is offered, a place of the key cache, the direct commands, the erasures, the restart,
-// the consistency check and the numbers beside the buffer, the table of handles, the mailbox and the
-// engine's reply, their answers as the numbers of `numbers`, `reasons`, `replies` and `buffers`. Each function does what the entry point below it does, for any bytes and any
+// the table of handles, the mailbox and the engine's reply, their answers as the numbers of `numbers`,
+// `reasons` and `replies`. Each function does what the entry point below it does, for any bytes and any
 // lengths, and asks nothing of its caller but what include/sciambrunola.h says of pointers. It rests on
-// `reader`, `plan`, `states`, `reason`, `cache`, `handles`, `buffer`, `direct`, `erasure`, `restart`,
-// `consistency`, `mailbox` and `reply`, and on the array of `context`.
-mod buffers;
+// `reader`, `plan`, `states`, `reason`, `cache`, `handles`, `direct`, `erasure`, `mailbox` and `reply`, and
+// on the array of `context`.
 mod numbers;
 mod reasons;
 mod replies;
 
-ghost use Rattle.std.specs.Prelude.{◌≡◌, ℕ, List};
+ghost use Rattle.std.specs.Prelude.{◌≡◌};
 ghost use Rattle.context.specs.State.{state, outcome, telling};
-ghost use Rattle.cache.specs.Cache.{cache_of, place_at};
+ghost use Rattle.cache.specs.Cache.{cache_of, place_at, emptied};
 ghost use Rattle.handles.specs.Making.{making_of};
-ghost use Rattle.buffer.specs.Buffer.{kept_of, numbers_at};
-ghost use Rattle.restart.specs.Restart.{lent as afresh, restart_of};
-ghost use Rattle.consistency.specs.Consistency.{check_of};
 ghost use Rattle.reader.specs.Reader.{reading_of};
 ghost use Rattle.plan.specs.Writing.{writing_of};
 ghost use Rattle.states.specs.States.{lists, listing_of};
@@ -27,9 +23,7 @@ ghost use Rattle.mailbox.specs.Mailbox.{lent, mailbox_of};
 ghost use Rattle.reply.specs.Reply.{taking_of};
 ghost use Rattle.sciambrunola.specs.Numbers.{fields_numbers, written_numbers, listing_numbers, reason_numbers};
 ghost use Rattle.sciambrunola.specs.Numbers.{place_numbers, made_number, answer_numbers, erasure_numbers, reply_numbers, engine_reply, taken_number};
-ghost use Rattle.sciambrunola.specs.Numbers.{restarted_number, consistency_numbers, buffer_numbers};
 
-use buffers::{SciConsistency, SciNumbers};
 use context::Context;
 use direct::Command;
 use numbers::{SciAnswer, SciErasure, SciFields, SciListing, SciPlace, SciReply, SciWritten};
@@ -82,28 +76,19 @@ pub extern "C" fn sci_cache_place(context: &Context, place: u32) -> SciPlace
     numbers::flat_place(cache::read_place(context, place))
 }
 
-// What stands beside the buffer of a partition: its ones, and whether its check is skipped.
-#[unsafe(no_mangle)]
-pub extern "C" fn sci_buffer_numbers(context: &Context, partition: u32) -> SciNumbers
-    ensures { result ≡ buffer_numbers (numbers_at (kept_of context.now) partition) }
-{
-    buffers::flat_numbers(buffer::read_numbers(context, partition))
-}
-
 // READ of the word that starts at `cell`.
 #[unsafe(no_mangle)]
 pub extern "C" fn sci_read(
     image: &[u8],
     cells: &mut [u32],
     marks: &[u32],
-    buffer: &[u32],
     context: &mut Context,
     cell: u32,
 ) -> SciAnswer
     ensures { outcome result (state cells.new context.new)
-        ≡ telling answer_numbers (direct_of image.now marks.now buffer.now (Command.Read cell) (state cells.old context.old)) }
+        ≡ telling answer_numbers (direct_of image.now marks.now (Command.Read cell) (state cells.old context.old)) }
 {
-    numbers::flat_answer(direct::read(image, cells, marks, buffer, cell))
+    numbers::flat_answer(direct::read(image, cells, marks, cell))
 }
 
 // WRITE of a value into the word that starts at `cell`.
@@ -116,8 +101,8 @@ pub extern "C" fn sci_write(
     cell: u32,
     value: u64,
 ) -> SciAnswer
-    ensures { (buffer : List ℕ) → outcome result (state cells.new context.new)
-        ≡ telling answer_numbers (direct_of image.now marks.now buffer (Command.Write cell value) (state cells.old context.old)) }
+    ensures { outcome result (state cells.new context.new)
+        ≡ telling answer_numbers (direct_of image.now marks.now (Command.Write cell value) (state cells.old context.old)) }
 {
     numbers::flat_answer(direct::write(image, cells, marks, context, cell, value))
 }
@@ -131,8 +116,8 @@ pub extern "C" fn sci_zeroize(
     context: &mut Context,
     cell: u32,
 ) -> SciAnswer
-    ensures { (buffer : List ℕ) → outcome result (state cells.new context.new)
-        ≡ telling answer_numbers (direct_of image.now marks.now buffer (Command.Zeroize cell) (state cells.old context.old)) }
+    ensures { outcome result (state cells.new context.new)
+        ≡ telling answer_numbers (direct_of image.now marks.now (Command.Zeroize cell) (state cells.old context.old)) }
 {
     numbers::flat_answer(direct::zeroize(image, cells, marks, context, cell))
 }
@@ -169,35 +154,12 @@ pub extern "C" fn sci_erase_cut(
     numbers::flat_erasure(erasure::erase_cut(image, cells, marks, context, partition, k, mask))
 }
 
-// A restart. Answers 0 where it was carried out, else the refusal's number.
+// A restart.
 #[unsafe(no_mangle)]
-pub extern "C" fn sci_restart(
-    image: &[u8],
-    cells: &[u32],
-    marks: &[u32],
-    buffer: &mut [u32],
-    context: &mut Context,
-) -> u32
-    ensures { outcome result (afresh context.new buffer.new)
-        ≡ telling restarted_number (restart_of image.now cells.now marks.now (afresh context.old buffer.old)) }
+pub extern "C" fn sci_restart(context: &mut Context)
+    ensures { context.new ≡ emptied context.old }
 {
-    buffers::flat_restarted(restart::restart(image, cells, marks, buffer, context))
-}
-
-// The consistency check of a partition.
-#[unsafe(no_mangle)]
-pub extern "C" fn sci_check_buffer(
-    image: &[u8],
-    cells: &[u32],
-    marks: &[u32],
-    buffer: &[u32],
-    context: &Context,
-    partition: u32,
-) -> SciConsistency
-    ensures { result
-        ≡ consistency_numbers (check_of image.now cells.now marks.now buffer.now context.now partition) }
-{
-    buffers::flat_verdict(consistency::check(image, cells, marks, buffer, context, partition))
+    erasure::restart(context);
 }
 
 // A fresh table of handles, in a context that has none. Answers 0 where it was made, else the refusal's

@@ -1,9 +1,8 @@
 /* Document 01, "The small drive", from C: the direct commands, which the example does not
  * show, and every field of their answers, of a mailbox's reply, an erasure that is refused and
- * one that ends with a short indicator and, by document 02, P1, P2 and P5 to P9, of reasons, of
+ * one that ends with a short indicator and, by document 02, P1, P2 and P5 to P8, of reasons, of
  * maps that are written, of a place after each reply of the engine, of a table of handles, of
- * ZEROIZE on the older guide, of new fuses, and of restarts, checks and the numbers beside the
- * buffer. */
+ * ZEROIZE on the older guide, and of new fuses. */
 #include "sciambrunola.h"
 
 #include <inttypes.h>
@@ -11,8 +10,7 @@
 #include <string.h>
 
 #define CELLS 12
-#define FUSES image, sizeof image, cells, CELLS, marks, CELLS
-#define DRIVE FUSES, &context
+#define DRIVE image, sizeof image, cells, CELLS, marks, CELLS, &context
 #define WEAK image, sizeof image, weak_cells, CELLS, weak_marks, CELLS, &context
 
 static const uint8_t image[] = {
@@ -31,7 +29,6 @@ static const uint32_t torn[CELLS] = {
     0xFFFFFFFF, 0xFFFFFFFF  /* the indicator */
 };
 static sci_context context = {0};
-static uint32_t buffer[CELLS];
 static uint8_t response[SCI_LEAST_RESPONSE];
 
 static void print_bytes(const uint8_t *bytes, size_t count)
@@ -189,66 +186,16 @@ static void print_map(const char *text, size_t room)
     print_bytes(written, map.bytes + 1);
 }
 
-static void print_check(sci_consistency check)
-{
-    printf("check: kind %" PRIu32 ", refusal %" PRIu32 ", cell %" PRIu32 "\n", check.kind,
-           check.refusal, check.cell);
-}
-
-/* Another drive, whose partition 0 is buffered, with a buffer of zeros: it is looked at, as
- * C calls it, before a restart and after. */
-static const uint8_t buffered_map[] = {
-    1, 0, 12, 0, 60, 0, 8, 0, /* P, C, B, E */
-    6, 0, 6, 0, SCI_KIND_SOFTWARE, SCI_FLAG_ZEROIZABLE + SCI_FLAG_BUFFERED, 0, 0
-};
-static uint32_t buffered_cells[CELLS] = {[6] = 0x81};
-static const uint32_t no_marks[CELLS];
-static sci_context buffered_context = {0};
-
-#define BUFFERED buffered_map, sizeof buffered_map, buffered_cells, CELLS, no_marks, CELLS
-
-static void print_restart(size_t map_bytes, size_t buffer_cells)
-{
-    printf("restart: refusal %" PRIu32 "\n",
-           sci_restart(buffered_map, map_bytes, buffered_cells, CELLS, no_marks, CELLS, buffer,
-                       buffer_cells, &buffered_context));
-}
-
-static void print_buffered(void)
-{
-    sci_numbers numbers = sci_buffer_numbers(&buffered_context, 0);
-    print_answer("READ 6", sci_read(BUFFERED, buffer, CELLS, &buffered_context, 6));
-    print_check(sci_check_buffer(BUFFERED, buffer, CELLS, &buffered_context, 0));
-    printf("numbers: ones %" PRIu64 ", skipped %" PRIu32 "\n", numbers.ones, numbers.skipped);
-}
-
-static void print_buffers(void)
-{
-    print_restart(sizeof buffered_map - 1, CELLS);
-    print_restart(sizeof buffered_map, CELLS - 1);
-    print_buffered();
-    print_restart(sizeof buffered_map, CELLS);
-    print_buffered();
-    print_answer("ZEROIZE 6", sci_zeroize(BUFFERED, &buffered_context, 6));
-    print_buffered();
-    print_restart(sizeof buffered_map, CELLS);
-    print_buffered();
-    print_check(sci_check_buffer(BUFFERED, buffer, CELLS, &buffered_context, 1));
-    print_check(sci_check_buffer(FUSES, buffer, CELLS, &context, 1));
-    print_check(sci_check_buffer(FUSES, buffer, CELLS - 1, &context, 1));
-}
-
 int main(void)
 {
-    print_answer("READ 0", sci_read(FUSES, buffer, CELLS, &context, 0));
+    print_answer("READ 0", sci_read(DRIVE, 0));
     print_answer("WRITE 7", sci_write(DRIVE, 7, 0x81));
     print_answer("WRITE 7", sci_write(DRIVE, 7, 0x89));
-    print_answer("READ 7", sci_read(FUSES, buffer, CELLS, &context, 7));
+    print_answer("READ 7", sci_read(DRIVE, 7));
     print_answer("WRITE 0", sci_write(DRIVE, 0, 5));
     print_answer("ZEROIZE 4", sci_zeroize(WEAK, 4));
     print_answer("ZEROIZE 6", sci_zeroize(DRIVE, 6));
     print_older();
-    print_buffers();
     print_erasure(sci_erase(DRIVE, 0));
     print_erasure(sci_erase(WEAK, 0));
     print_handles();

@@ -6,8 +6,8 @@
 use crate::context;
 use crate::painted::left_by_c;
 use model::{
-    Answer, Call, Command, Consistency, Cut, Drive, EngineReply, Erase, Erasure, KeyBlock, Lent,
-    Order, Reason, Reply, Request, Said,
+    Answer, Call, Command, Cut, Drive, EngineReply, Erase, Erasure, KeyBlock, Lent, Order, Reason,
+    Reply, Request, Said,
 };
 use sciambrunola::{Context, NO_CELL};
 
@@ -32,8 +32,6 @@ extern "C" {
     fn sci_erase();
     fn sci_erase_cut();
     fn sci_restart();
-    fn sci_check_buffer();
-    fn sci_buffer_numbers();
     fn sci_mailbox();
     fn sci_engine_reply();
     fn sci_make_table();
@@ -87,21 +85,10 @@ impl KeyBlock for Archive {
 
 /// What C is told of a place of this context: its kind and its tag.
 pub fn place(context: &Context, number: u32) -> Said {
-    asked(context, sci_cache_place, &Call::Place(number), number)
-}
-
-/// What C is told of the numbers beside the buffer: a partition's ones, and whether its check is
-/// skipped.
-pub fn beside_buffer(context: &Context, partition: u32) -> Said {
-    asked(context, sci_buffer_numbers, &Call::Numbers(partition), partition)
-}
-
-/// What C is told of this context by a number alone.
-fn asked(context: &Context, function: Function, call: &Call, number: u32) -> Said {
-    let words = vec![context as *const Context as u64, low(&number)];
+    let words = vec![context as *const Context as u64, number.into()];
     // SAFETY: the pointer is that of a borrowed context, which is only read.
-    let told = unsafe { Archive::default().call(function, words, false) };
-    said(call, told)
+    let told = unsafe { Archive::default().call(sci_cache_place, words, false) };
+    said(&Call::Place(number), told)
 }
 
 /// A drive, each pointer with its count, and the context.
@@ -120,10 +107,8 @@ fn lent_words(Drive { image, cells, marks }: &mut Drive, context: &mut Context) 
 /// The function of a call, and its arguments in the header's order.
 fn arguments(lent: &mut Lent, context: &mut Context, call: &Call) -> (Function, Vec<u64>) {
     let drive = lent_words(&mut lent.drive, context);
-    let Lent { response, block, output, buffer, .. } = lent;
-    let buffer = lent_run(buffer);
+    let Lent { response, block, output, .. } = lent;
     let with = |words: &[u64], more: &[u64]| [words, more].concat();
-    let with_buffer = |more: &[u64]| [&drive[..6], &buffer, &drive[6..], more].concat();
     match call {
         Call::Partition(number) => (sci_partition, with(&drive[..2], &[low(number)])),
         Call::States => {
@@ -131,9 +116,12 @@ fn arguments(lent: &mut Lent, context: &mut Context, call: &Call) -> (Function, 
             (sci_states, with(&drive[..6], &lists))
         }
         Call::Why => (sci_why, drive[..6].to_vec()),
-        Call::WriteMap(text) => (sci_write_map, with(&run(text), &lent_run(output))),
+        Call::WriteMap(text) => {
+            let output = [output.as_mut_ptr() as u64, output.len() as u64];
+            (sci_write_map, with(&run(text), &output))
+        }
         Call::Place(number) => (sci_cache_place, with(&drive[6..], &[low(number)])),
-        Call::Direct(Command::Read { cell }) => (sci_read, with_buffer(&[low(cell)])),
+        Call::Direct(Command::Read { cell }) => (sci_read, with(&drive, &[low(cell)])),
         Call::Direct(Command::Write { cell, value }) => {
             (sci_write, with(&drive, &[low(cell), *value]))
         }
@@ -143,8 +131,9 @@ fn arguments(lent: &mut Lent, context: &mut Context, call: &Call) -> (Function, 
             (sci_erase_cut, with(&drive, &[low(partition), low(k), *mask]))
         }
         Call::Mailbox(Request { code, bytes }) => {
-            let own = [run(bytes), lent_run(response), lent_run(block)].concat();
-            (sci_mailbox, [&drive[..], &[low(code)], &own].concat())
+            let response = [response.as_mut_ptr() as u64, response.len() as u64];
+            let block = [block.as_mut_ptr() as u64, block.len() as u64];
+            (sci_mailbox, [&drive[..], &[low(code)], &run(bytes), &response, &block].concat())
         }
         Call::EngineReply(reply) => {
             (sci_engine_reply, with(&drive[6..], &numbers(*reply).map(|number| low(&number))))
@@ -152,9 +141,7 @@ fn arguments(lent: &mut Lent, context: &mut Context, call: &Call) -> (Function, 
         Call::MakeTable { handles, algorithms } => {
             (sci_make_table, [&drive[6..], &run(handles), &run(algorithms)].concat())
         }
-        Call::Restart => (sci_restart, with_buffer(&[])),
-        Call::Check(number) => (sci_check_buffer, with_buffer(&[low(number)])),
-        Call::Numbers(number) => (sci_buffer_numbers, with(&drive[6..], &[low(number)])),
+        Call::Restart => (sci_restart, drive[6..].to_vec()),
     }
 }
 
@@ -166,11 +153,6 @@ fn low(number: &u32) -> u64 {
 /// The pointer of what is only read, and its count.
 fn run<T>(numbers: &[T]) -> [u64; 2] {
     [numbers.as_ptr() as u64, numbers.len() as u64]
-}
-
-/// The pointer of what may be written, and its count.
-fn lent_run<T>(numbers: &mut [T]) -> [u64; 2] {
-    [numbers.as_mut_ptr() as u64, numbers.len() as u64]
 }
 
 /// The engine's reply and the vendor's number, which is looked at by nobody. A reply of any number
@@ -202,12 +184,7 @@ fn said(call: &Call, told: [u32; 8]) -> Said {
         (Call::WriteMap(_), [refusal, bytes, ..]) => Said::Written([refusal, bytes]),
         (Call::EngineReply(_), [number, ..]) => Said::Taken(unless_refused(number)),
         (Call::MakeTable { .. }, [number, ..]) => Said::Made(unless_refused(number)),
-        (Call::Restart, [number, ..]) => Said::Restarted(unless_refused(number)),
-        (Call::Check(_), _) => Said::Checked(consistency(told)),
-        // Behind them are four bytes of no meaning.
-        (Call::Numbers(_), [low, high, skipped, ..]) => {
-            Said::Numbers([word(low, high), skipped.into()])
-        }
+        (Call::Restart, _) => Said::Nothing,
         (Call::Direct(_), _) => Said::Answer(answer(told)),
         (Call::Erase(_), _) => Said::Erasure(erasure(told)),
         (Call::Mailbox(_), [0, length, which, place, timeout, ..]) => {
@@ -244,17 +221,6 @@ fn erasure(told: [u32; 8]) -> Erasure {
         [1, 0, 0, 0, burns, new_fuses, ..] => Erasure::Cut { burns, new_fuses },
         [2, number, 0, 0, burns, 0, ..] => Erasure::Refused { number, burns },
         _ => panic!("an erasure is answered {told:X?}"),
-    }
-}
-
-/// The same of a check.
-fn consistency(told: [u32; 8]) -> Result<Consistency, u32> {
-    match told {
-        [0, 0, 0, ..] => Ok(Consistency::Skipped),
-        [1, 0, 0, ..] => Ok(Consistency::Agrees),
-        [2, 0, cell, ..] => Ok(Consistency::Differs { cell }),
-        [3, number, 0, ..] => Err(number),
-        _ => panic!("a check is answered {told:X?}"),
     }
 }
 

@@ -1,11 +1,8 @@
 //! Calls of a key block compared with the model's: any two sides of one call, and generated calls
 //! in sequences on one drive.
 
-pub mod buffers;
-pub mod causes;
 mod charge;
 pub mod commands;
-mod consistency;
 mod handles;
 mod met;
 mod outcomes;
@@ -54,9 +51,9 @@ pub fn unlike_model(before: &Lent, call: &Call, block: Side) -> Option<String> {
 }
 
 /// The first thing in which what a key block answers or leaves is not the model's:
-/// the answer, the cells, the buffer, the numbers beside it, the places of the cache, the awaited
-/// reply, the table, the block, the response buffer, the two arrays of the states, the buffer for a
-/// map, or anything else that is lent.
+/// the answer, the cells, the places of the cache, the awaited reply, the table, the block, the
+/// response buffer, the two arrays of the states, the buffer for a map, or anything else that is
+/// lent.
 pub fn difference((said, expected): Side, (answered, found): Side) -> Option<String> {
     if said == answered && expected == found {
         return None;
@@ -73,8 +70,6 @@ pub fn difference((said, expected): Side, (answered, found): Side) -> Option<Str
     let first = (said != answered)
         .then(answers)
         .or_else(|| first("cell", &expected.drive.cells, &found.drive.cells))
-        .or_else(|| first("buffer cell", &expected.buffer, &found.buffer))
-        .or_else(|| first("numbers", &expected.numbers, &found.numbers))
         .or_else(|| first("place", &expected.cache.places, &found.cache.places))
         .or_else(awaited)
         .or_else(|| first("table word", &tables()[0], &tables()[1]))

@@ -1,8 +1,8 @@
 //! The archive's context of what the model keeps between calls, and back: the one
 //! place of the generated comparisons that knows the parts of a context.
 
-use model::{Awaited, Handle, Lent, Numbers, Place, Table, HANDLES, PARTITIONS, PLACES};
-use sciambrunola::{BufferNumbers, Context, CONTEXT_WORDS};
+use model::{Awaited, Handle, Lent, Place, Table, HANDLES, PLACES};
+use sciambrunola::{Context, CONTEXT_WORDS};
 
 /// The word behind the places: what reply is awaited.
 pub const AWAITED: usize = 2 * PLACES;
@@ -10,16 +10,12 @@ pub const AWAITED: usize = 2 * PLACES;
 /// The words behind that: the table.
 pub const TABLE: usize = AWAITED + 1;
 
-/// The words behind those: the ones of each partition, then whether the check of each is skipped.
-pub const ONES: usize = TABLE + HANDLES + 2;
-pub const SKIPS: usize = ONES + PARTITIONS;
-
 /// What can be awaited, by its number there.
 pub const REPLIES: [Option<Awaited>; 4] =
     [None, Some(Awaited::Clear), Some(Awaited::Load), Some(Awaited::Unload)];
 
 /// The kind of each place of the cache, then the tag of each, as C is told them; then the number
-/// of the awaited reply; then the table; then the numbers beside the buffer.
+/// of the awaited reply; then the table.
 pub fn words(lent: &Lent) -> [u64; CONTEXT_WORDS] {
     let mut words = [0; CONTEXT_WORDS];
     for (i, place) in lent.cache.places.iter().enumerate() {
@@ -27,10 +23,7 @@ pub fn words(lent: &Lent) -> [u64; CONTEXT_WORDS] {
     }
     let number = REPLIES.iter().position(|awaited| *awaited == lent.cache.awaited);
     words[AWAITED] = number.expect("it has a number") as u64;
-    words[TABLE..ONES].copy_from_slice(&table_words(&lent.table));
-    for (i, Numbers { ones, skipped }) in lent.numbers.into_iter().enumerate() {
-        (words[ONES + i], words[SKIPS + i]) = (ones, skipped.into());
-    }
+    words[TABLE..].copy_from_slice(&table_words(&lent.table));
     words
 }
 
@@ -58,13 +51,7 @@ pub fn take_back(lent: &mut Lent, context: &Context) {
     let half = |word: u64| Handle { number: word as u32, algorithm: (word >> 32) as u32 };
     let handles = std::array::from_fn(|i| half(words[TABLE + 1 + i]));
     lent.table = Table { count: words[TABLE], handles, greatest: words[TABLE + 1 + HANDLES] };
-    lent.numbers = std::array::from_fn(|i| numbers(context.buffer_numbers(i)));
     assert_eq!(*context, of(lent), "the words say something else than what is taken back");
-}
-
-/// The numbers beside the buffer as the model says them.
-pub fn numbers(BufferNumbers { ones, skipped }: BufferNumbers) -> Numbers {
-    Numbers { ones, skipped }
 }
 
 /// A place as the model says it.

@@ -1,8 +1,8 @@
 //! Document 02, P5: a drive that goes on calling beside an engine which answers at once, late,
 //! never, twice or with failures, from a cache that begins empty; and P6: it lists and rotates
-//! handles, from a fresh table; by P9 some restarts are refused. What holds after every list of
-//! such calls is checked on the values that a key block gives and leaves, by an account of its
-//! orders and handles, and not by the model.
+//! handles, from a fresh table. What holds after every list of such calls is checked on the values
+//! that a key block gives and leaves, by an account of its orders and handles, and not by the
+//! model.
 
 mod account;
 mod clauses;
@@ -52,10 +52,9 @@ const OPEN: &str = "awaited to the end";
 const FULL: &str = "a full cache in the end";
 const FULL_UNSURE: &str = "a full cache in the end, some place unsure";
 
-/// Refusals that have to be met, 2 for a table over a table too, and other things that calls come
-/// to.
+/// Refusals that have to be met, 2 for a table over a table, and what is asked of tables.
 const REFUSALS: [u32; 12] = [2, 10, 11, 12, 13, 14, 15, 17, 18, 19, 20, 21];
-const OUTCOMES: [&str; 4] = ["EHDL none", "RHPK none", "restart restarted", "restart refused 2"];
+const OF_TABLES: [&str; 2] = ["EHDL none", "RHPK none"];
 
 /// A reply on its way.
 struct Coming {
@@ -116,7 +115,7 @@ pub fn possible() -> Vec<String> {
         };
         fates.iter().map(move |fate| format!("{manner}: {fate}"))
     });
-    let others = [FULL, FULL_UNSURE].into_iter().chain(OUTCOMES).map(str::to_string);
+    let others = [FULL, FULL_UNSURE].into_iter().chain(OF_TABLES).map(str::to_string);
     manners.chain(answers()).chain(REFUSALS.map(refused)).chain(others).collect()
 }
 
@@ -166,7 +165,7 @@ impl<B: KeyBlock> Player<'_, B> {
         }
         let refusal = said.refusal().filter(|number| REFUSALS.contains(number));
         self.met.extend(refusal.map(refused));
-        self.met.extend(Some(came(&call, said)).filter(|came| OUTCOMES.contains(&came.as_str())));
+        self.met.extend(Some(came(&call, said)).filter(|came| OF_TABLES.contains(&came.as_str())));
         match (was.open, self.account.open) {
             (Some(order), None) if !matches!(call, Call::EngineReply(_)) => {
                 self.meet(order, DROPPED)
@@ -225,11 +224,7 @@ impl<B: KeyBlock> Player<'_, B> {
                 let cut = Some(commands::cut_of(random, drive, partition));
                 Call::Erase(Erase { partition, cut })
             }
-            9 => {
-                // One in four finds a buffer that is not C long.
-                self.lent.buffer.resize(random.pick(&[24, 24, 24, 23]), 0);
-                Call::Restart
-            }
+            9 => Call::Restart,
             10 => tables::making(random, &self.numbers),
             _ => {
                 let handle = tables::handle(random, table, &self.numbers);

@@ -1,10 +1,9 @@
 //! Copies of the model with one fault each, for the tests of the tests: one for each thing that a
 //! comparison looks at, for each clause of a history one that breaks it, wrong states, reasons and
-//! maps, wrong places, orders and replies, wrong tables and handles, wrong ZEROIZEs, wrong numbers
-//! of new fuses, and wrong buffers and checks. That the proofs refuse faults of the key block
-//! itself is shown by the edits in `crates/*/must-fail`.
+//! maps, wrong places, orders and replies, wrong tables and handles, wrong ZEROIZEs, and wrong
+//! numbers of new fuses. That the proofs refuse faults of the key block itself is shown by the
+//! edits in `crates/*/must-fail`.
 
-mod buffers;
 mod charge;
 mod engine;
 mod erasures;
@@ -13,8 +12,7 @@ mod handles;
 mod made;
 mod maps;
 
-pub use made::of_sums;
-pub use made::{of_buffer_refusals, of_buffers, of_charge, of_engine, of_guides, of_handles};
+pub use made::{of_charge, of_engine, of_guides, of_handles, of_sums};
 pub use maps::OF_MAPS;
 
 use crate::layout::Layout;
@@ -23,23 +21,18 @@ use model::{Answer, Awaited, Call, Command, Cut, Drive, Erase, KeyBlock, Lent, M
 use model::{Reason, Reply, Said, State};
 
 /// Faults by how their difference from the model is told.
-pub const OF_COMPARISONS: [&str; 25] = [
+pub const OF_COMPARISONS: [&str; 20] = [
     "the answer: the model says Answer(",
-    "the answer: the model says Checked(",
     "the answer: the model says Erasure(",
     "the answer: the model says Fields(",
     "the answer: the model says Listing(",
     "the answer: the model says Made(",
-    "the answer: the model says Numbers(",
     "the answer: the model says Place(",
     "the answer: the model says Reason(",
     "the answer: the model says Reply(",
-    "the answer: the model says Restarted(",
     "the answer: the model says Taken(",
     "the answer: the model says Written(",
     "cell 0: ",
-    "buffer cell 0: ",
-    "numbers 15: ",
     "place 15: ",
     "the awaited reply: ",
     "table word 4: ",
@@ -214,27 +207,8 @@ impl Faulty {
             ("table word 4: ", Said::Made(Ok(()))) => lent.table.greatest += 1,
             ("state 0: ", Said::Listing([1 | 2, _])) => lent.states[0] ^= 1,
             ("short pairs 15: ", Said::Listing([0, 1..=15])) => lent.short_pairs[15] ^= 1,
-            ("the model leaves ", Said::Restarted(Ok(()))) => set(&mut lent.drive.marks),
-            ("a restart burns fuses", Said::Restarted(Ok(()))) => set(&mut lent.drive.cells),
-            _ => return self.beside_buffer(right, lent),
-        }
-        None
-    }
-
-    /// The same for a restart, a check and the numbers.
-    fn beside_buffer(&self, right: Said, lent: &mut Lent) -> Option<Said> {
-        match (self.0, right) {
-            ("the answer: the model says Checked(", Said::Checked(Ok(_))) => {
-                return Some(Said::Checked(Err(8)));
-            }
-            ("the answer: the model says Numbers(", Said::Numbers([ones, _])) => {
-                return Some(Said::Numbers([ones, 2]));
-            }
-            ("the answer: the model says Restarted(", Said::Restarted(Err(_))) => {
-                return Some(Said::Restarted(Ok(())));
-            }
-            ("buffer cell 0: ", Said::Restarted(Ok(()))) => lent.buffer[0] ^= 1,
-            ("numbers 15: ", Said::Restarted(Ok(()))) => lent.numbers[15].ones += 1,
+            ("the model leaves ", Said::Nothing) => set(&mut lent.drive.marks),
+            ("a restart burns fuses", Said::Nothing) => set(&mut lent.drive.cells),
             _ => {}
         }
         None

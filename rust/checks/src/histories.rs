@@ -33,8 +33,6 @@ pub struct Attempt {
     pub call: Call,
     /// The engine block and the response buffer; only FERS needs them.
     pub buffers: (Vec<u8>, Vec<u8>),
-    /// P9's buffer; only a restart needs it.
-    pub buffer: Vec<u32>,
 }
 
 const SEED: u64 = 0x5EED_0003_0059_0015;
@@ -92,23 +90,15 @@ fn attempt(random: &mut Random, history: &History) -> Attempt {
         }
         2 => return right_fers(random, partition),
         3 => return refused_fers(random, history),
-        _ => return restart(random, history),
+        _ => Call::Restart,
     };
-    Attempt { call, buffers: Default::default(), buffer: vec![] }
-}
-
-/// One in eight has a buffer that is not C long, for which it is refused.
-fn restart(random: &mut Random, history: &History) -> Attempt {
-    let cells = history.start.cells.len();
-    let wrong = random.pick(&[cells.saturating_sub(1), cells + 1, 0]);
-    let count = if random.one_in(8) { wrong } else { cells };
-    Attempt { call: Call::Restart, buffers: Default::default(), buffer: random.cells(count) }
+    Attempt { call, buffers: Default::default() }
 }
 
 /// "FERS naming it"
 fn right_fers(random: &mut Random, partition: u32) -> Attempt {
     let call = Call::Mailbox(requests::fers(partition));
-    Attempt { call, buffers: requests::buffers(random), buffer: vec![] }
+    Attempt { call, buffers: requests::buffers(random) }
 }
 
 /// "FERS refused by a number up to 6", which may name any partition. One that
@@ -125,5 +115,5 @@ fn refused_fers(random: &mut Random, history: &History) -> Attempt {
     if call.applying(&lent).iter().all(|refusal| refusal.number() > 6) {
         return right_fers(random, history.partition);
     }
-    Attempt { call, buffers: (lent.block, lent.response), buffer: vec![] }
+    Attempt { call, buffers: (lent.block, lent.response) }
 }

@@ -14,7 +14,6 @@ pub struct Layout {
     pub range: Range<usize>,
     pub zeroizable: bool,
     pub slot: bool,
-    pub buffered: bool,
     /// Cells of a data word.
     word_cells: usize,
     pub bound: u32,
@@ -32,7 +31,6 @@ impl Layout {
             range: entry.range(),
             zeroizable: entry.zeroizable(),
             slot: entry.slot(),
-            buffered: entry.buffered(),
             word_cells: if entry.kind == SOFTWARE { 1 } else { 2 },
             bound: map.bound() as u32,
         };

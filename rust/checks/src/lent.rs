@@ -7,12 +7,11 @@ use sciambrunola::{BLOCK_BYTES, LEAST_RESPONSE};
 const HANDLES: [[u32; 2]; 3] = [[5, 1], [9, 2], [7, 2]];
 const LARGEST: u64 = 9;
 
-/// A drive with a fresh table of three handles, no key held, and a buffer that holds its cells.
-/// Block and response buffer hold bytes that no answer has.
+/// A drive with a fresh table of three handles and no key held. Block and response buffer hold
+/// bytes that no answer has.
 pub fn of(drive: Drive) -> Lent {
     let (block, response) = (vec![0xB1; BLOCK_BYTES], vec![0xA5; LEAST_RESPONSE]);
-    let buffer = drive.cells.clone();
-    Lent { drive, table: table(), buffer, block, response, ..Lent::default() }
+    Lent { drive, table: table(), block, response, ..Lent::default() }
 }
 
 /// That table.

@@ -4,7 +4,6 @@
 
 #[allow(unsafe_code)]
 pub mod archive;
-pub mod buffers;
 pub mod calls;
 pub mod context;
 pub mod drives;
@@ -23,6 +22,5 @@ pub mod random;
 pub mod runner;
 pub mod small;
 pub mod stack;
-pub mod steps;
 pub mod tally;
 pub mod texts;

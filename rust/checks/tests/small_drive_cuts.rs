@@ -24,8 +24,7 @@ fn masks() -> impl Iterator<Item = u64> {
 }
 
 fn attempt(call: Call) -> Attempt {
-    let buffers = (vec![0xB1; BLOCK_BYTES], vec![0xA5; 44]);
-    Attempt { call, buffers, buffer: vec![0xB0FF_E12D; 12] }
+    Attempt { call, buffers: (vec![0xB1; BLOCK_BYTES], vec![0xA5; 44]) }
 }
 
 /// What is asked for after, or before, this cut.

@@ -15,9 +15,9 @@ const FIRST_RULES: &str = "\
 const RULES: &str = "\
     the map breaks a rule with this partition: first and cells are even; cells is at least 4, with \
     flag 1 at least 6; it begins where the one before ends or later, and ends by C; kind is 0 \
-    hardware, 1 software or 2 life cycle; flags is the sum of 1 zeroizable, 2 secret, 4 slot, 8 \
-    older guide and 16 buffered; flag 1 is not for kind 2, flag 2 is for kind 0 alone, flag 4 \
-    needs 1 and 2, and flag 8 needs 1";
+    hardware, 1 software or 2 life cycle; flags is the sum of 1 zeroizable, 2 secret, 4 slot and 8 \
+    older guide; flag 1 is not for kind 2, flag 2 is for kind 0 alone, flag 4 needs 1 and 2, and \
+    flag 8 needs 1";
 const NO_PARTITION: &str = "\
     the map has no partition: wanted `first cells kind flags` below this line";
 

@@ -90,10 +90,9 @@ fn a_map_that_breaks_a_rule_is_told_with_its_line_and_the_rules() {
     let rules = "the map breaks a rule with this partition: first and cells are even; cells is \
                  at least 4, with flag 1 at least 6; it begins where the one before ends or \
                  later, and ends by C; kind is 0 hardware, 1 software or 2 life cycle; flags is \
-                 the sum of 1 zeroizable, 2 secret, 4 slot, 8 older guide and 16 buffered; flag 1 \
-                 is not for kind 2, flag 2 is for kind 0 alone, flag 4 needs 1 and 2, and flag 8 \
-                 needs 1";
-    let lines = ["0 6 0 5", "1 6 0 7", "0 4 0 7", "0 14 0 0", "0 6 3 0", "0 6 0 8", "0 6 0 32"];
+                 the sum of 1 zeroizable, 2 secret, 4 slot and 8 older guide; flag 1 is not for \
+                 kind 2, flag 2 is for kind 0 alone, flag 4 needs 1 and 2, and flag 8 needs 1";
+    let lines = ["0 6 0 5", "1 6 0 7", "0 4 0 7", "0 14 0 0", "0 6 3 0", "0 6 0 8", "0 6 0 16"];
     for line in lines.into_iter().chain(["0 6 256 7"]) {
         check(&format!("line 2: {rules}"), &[&format!("12 60\n{line}\n6 6 1 0\ncell 0 1\n")]);
     }

@@ -1,5 +1,7 @@
 //! Document 01, "Active slot and key cache", as P5 of document 02 changes it: the key cache with
-//! the reply that is awaited. The restart, which empties it, stands with P9.
+//! the reply that is awaited, and the restart.
+
+use crate::lent::Lent;
 
 /// "Active slot and key cache": "The cache has 16 places".
 pub const PLACES: usize = 16;
@@ -109,4 +111,10 @@ impl Cache {
     pub fn lowest_holding(&self, tag: u64) -> Option<usize> {
         self.places.iter().position(|place| place.tag() == Some(tag))
     }
+}
+
+/// "A restart empties the cache and changes nothing else"; P5: "A cut or restart empties all
+/// places and drops an awaited reply." P6: the table, "which a restart leaves".
+pub fn restart(before: &Lent) -> Lent {
+    Lent { cache: Cache::default(), ..before.clone() }
 }

@@ -1,7 +1,6 @@
-//! Document 01, and P1, P2, P5, P6 and P9 of document 02: every call of the key block, what it
-//! answers, and the model as one key block among others.
+//! Document 01, and P1, P2, P5 and P6 of document 02: every call of the key block, what it answers,
+//! and the model as one key block among others.
 
-use crate::buffer::{self, Consistency};
 use crate::direct::{self, Answer, Command};
 use crate::engine::{self, EngineReply};
 use crate::erasure::{self, Erase, Erasure};
@@ -10,7 +9,7 @@ use crate::mailbox::request::Request;
 use crate::mailbox::{self, fields, Reply};
 use crate::refusal::Refusal;
 use crate::why::{self, Reason};
-use crate::{handles, reading, text};
+use crate::{cache, handles, reading, text};
 use std::fmt;
 
 /// A call, with all that it is given besides what is lent.
@@ -37,13 +36,8 @@ pub enum Call {
     /// Document 02, P6: a fresh table, of these handles with their algorithms.
     #[allow(missing_docs)]
     MakeTable { handles: Vec<u32>, algorithms: Vec<u32> },
-    /// "Active slot and key cache": "A restart empties the cache". Document 02, P9: it fills the
-    /// buffer.
+    /// "Active slot and key cache": "A restart empties the cache".
     Restart,
-    /// Document 02, P9: the consistency check of this partition.
-    Check(u32),
-    /// Document 02, P9: what stands beside the buffer for this partition.
-    Numbers(u32),
 }
 
 /// What a call answered. The calls of document 01 that only read answer numbers, and so
@@ -71,12 +65,8 @@ pub enum Said {
     Taken(Result<(), u32>),
     /// The table is made, or the number of the refusal.
     Made(Result<(), u32>),
-    /// The drive has restarted, or the number of the refusal.
-    Restarted(Result<(), u32>),
-    /// What the check answers, or the number of the refusal.
-    Checked(Result<Consistency, u32>),
-    /// The ones of a partition, and 1 or 0 whether its check is skipped.
-    Numbers([u64; 2]),
+    /// A restart answers nothing.
+    Nothing,
 }
 
 /// Whatever can be called: it answers, and changes what it is lent.
@@ -106,9 +96,7 @@ impl KeyBlock for Model {
             Call::MakeTable { handles, algorithms } => {
                 told(handles::make(lent, handles, algorithms), Said::Made)
             }
-            Call::Restart => told(buffer::restart(lent), Said::Restarted),
-            Call::Check(partition) => return Said::Checked(buffer::check(lent, *partition)),
-            Call::Numbers(partition) => return Said::Numbers(buffer::told(lent, *partition)),
+            Call::Restart => (Said::Nothing, cache::restart(lent)),
         };
         *lent = after;
         said
@@ -138,8 +126,6 @@ impl Call {
             Call::EngineReply(_) => "engine reply",
             Call::MakeTable { .. } => "make table",
             Call::Restart => "restart",
-            Call::Check(_) => "check",
-            Call::Numbers(_) => "numbers",
         }
     }
 
@@ -156,9 +142,7 @@ impl Call {
             Call::MakeTable { handles, algorithms } => {
                 handles::applying(before, handles, algorithms)
             }
-            Call::Restart => buffer::applying(before),
-            Call::Check(partition) => buffer::applying_to_check(before, *partition),
-            Call::Place(_) | Call::Numbers(_) => vec![],
+            Call::Place(_) | Call::Restart => vec![],
         }
     }
 }
@@ -173,7 +157,6 @@ impl Said {
             Said::Erasure(Erasure::Refused { number, .. }) => Some(number),
             Said::Reply(Reply::Refused(number)) => Some(number),
             Said::Taken(Err(number)) | Said::Made(Err(number)) => Some(number),
-            Said::Restarted(Err(number)) | Said::Checked(Err(number)) => Some(number),
             _ => None,
         }
         .filter(|number| *number != 0)

@@ -1,7 +1,5 @@
-//! Document 01, "Direct commands", as P4 of document 02 changes WRITE, P7 ZEROIZE, P8 both, and P9
-//! READ.
+//! Document 01, "Direct commands", as P4 of document 02 changes WRITE, P7 ZEROIZE, and P8 both.
 
-use crate::buffer;
 use crate::fuse;
 use crate::lent::Lent;
 use crate::map::{Map, Part, Size, Word, LIFE_CYCLE};
@@ -69,19 +67,9 @@ fn carry_out(lent: &mut Lent, command: Command) -> Answer {
         // "ZEROIZE burns all ones"; of them, a word of 32 bits takes the low 32.
         Command::Zeroize { .. } => burn(u64::MAX),
     };
-    let answer = answer(lent, &map, word, command, newly_set);
-    // P9: the check is skipped "when any ZEROIZE [...] of it since then has answered a word".
-    if matches!((command, answer), (Command::Zeroize { .. }, Answer::Word { .. })) {
-        lent.numbers[word.partition].skipped = true;
-    }
-    answer
-}
-
-/// What a command that was carried out answers, which burned so many fuses newly.
-fn answer(lent: &Lent, map: &Map, word: Word, command: Command, newly_set: u32) -> Answer {
-    let entry = map.entries()[word.partition];
-    let now_stands = fuse::word(&lent.drive.cells, command.cell(), word.size);
+    let now_stands = fuse::word(&drive.cells, command.cell(), word.size);
     let reaches_bound = u64::from(now_stands.count_ones()) >= map.bound();
+    let entry = map.entries()[word.partition];
     let secret = entry.secret();
     // P8: "In a secret partition WRITE and ZEROIZE do not show it."
     let new_fuses = if secret { 0 } else { newly_set };
@@ -94,10 +82,6 @@ fn answer(lent: &Lent, map: &Map, word: Word, command: Command, newly_set: u32) 
         Command::Zeroize { .. } if entry.older_guide() => {
             Answer::Word { word: word.size.all_ones(), new_fuses }
         }
-        // P9: "READ of a buffered partition answers from it", the buffer.
-        Command::Read { .. } if entry.buffered() => {
-            Answer::Word { word: fuse::word(&lent.buffer, command.cell(), word.size), new_fuses }
-        }
         _ => Answer::Word { word: now_stands, new_fuses },
     }
 }
@@ -108,18 +92,14 @@ fn answer(lent: &Lent, map: &Map, word: Word, command: Command, newly_set: u32) 
 pub fn applying(lent: &Lent, command: Command) -> Vec<Refusal> {
     let map = lent.drive.map();
     let word = map.as_ref().and_then(|map| map.word_at(command.cell()));
-    let changes = !matches!(command, Command::Read { .. });
     let mut tests = vec![
         (Refusal::BadMap, map.is_none()),
-        // READ alone looks at the buffer, whatever the partition.
-        (
-            Refusal::WrongLength,
-            lent.drive.lengths_are_wrong() || (!changes && buffer::is_wrong(lent)),
-        ),
+        (Refusal::WrongLength, lent.drive.lengths_are_wrong()),
         (Refusal::NotThere, map.is_some() && word.is_none()),
     ];
     if let (Some(map), Some(word)) = (map, word) {
         let slot = map.entries()[word.partition].slot();
+        let changes = !matches!(command, Command::Read { .. });
         let fuses = Some(&lent.drive.cells[..]).filter(|cells| cells.len() == map.cells());
         tests.push((Refusal::MayNotTouch, may_not_touch(fuses, &map, word, command)));
         tests.push((Refusal::WouldClear, would_clear(fuses, word, command)));

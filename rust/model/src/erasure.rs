@@ -1,4 +1,4 @@
-//! Document 01, "Erasing a partition", as P4, P5, P8 and P9 of document 02 change it.
+//! Document 01, "Erasing a partition", as P4, P5 and P8 of document 02 change it.
 
 use crate::cache::Cache;
 use crate::drive::Drive;
@@ -94,8 +94,6 @@ fn carry_out(lent: &mut Lent, erase: Erase) -> Erasure {
         lent.cache = Cache::default();
         return Erasure::Cut { burns, new_fuses };
     }
-    // P9: the check is skipped "when any [...] erasure of it since then has [...] ended normally".
-    lent.numbers[partition].skipped = true;
     let partition = Partition::of(&map, partition, &lent.drive.cells);
     let first_short = partition.lowest_short_pair().map(|cell| cell as u32);
     Erasure::Erased { short_pairs: partition.short_pairs() as u32, first_short, burns, new_fuses }

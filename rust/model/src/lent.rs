@@ -1,7 +1,6 @@
 //! Document 01, "Burning and counting", "Active slot and key cache" and "Mailbox", and P2,
-//! P5, P6 and P9 of document 02: everything that a caller lends to a call.
+//! P5 and P6 of document 02: everything that a caller lends to a call.
 
-use crate::buffer::Numbers;
 use crate::cache::Cache;
 use crate::drive::Drive;
 use crate::handles::Table;
@@ -20,10 +19,6 @@ pub struct Lent {
     pub cache: Cache,
     /// Document 02, P6: the table of handles.
     pub table: Table,
-    /// Document 02, P9: "A lent buffer of C cells".
-    pub buffer: Vec<u32>,
-    /// Document 02, P9: what stands beside it, for each partition that a map can have.
-    pub numbers: [Numbers; PARTITIONS],
     /// "Active slot and key cache": the engine block, as the lent buffer for it.
     pub block: Vec<u8>,
     /// "Mailbox": the response buffer.

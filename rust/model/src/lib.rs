@@ -1,4 +1,4 @@
-//! A plain reading of document 01, and of P1, P2 and P4 to P9 of document 02, written from the
+//! A plain reading of document 01, and of P1, P2 and P4 to P8 of document 02, written from the
 //! documents alone.
 //!
 //! Each file names the section or the request that it reads. Nothing here is
@@ -6,7 +6,6 @@
 #![forbid(unsafe_code)]
 #![deny(missing_docs)]
 
-pub mod buffer;
 pub mod cache;
 pub mod call;
 pub mod direct;
@@ -27,7 +26,6 @@ pub mod status;
 pub mod text;
 pub mod why;
 
-pub use buffer::{Consistency, Numbers};
 pub use cache::{Awaited, Cache, Place, PLACES};
 pub use call::{Call, KeyBlock, Model, Said};
 pub use direct::{Answer, Command};
@@ -41,7 +39,7 @@ pub use mailbox::fields::Command as Mail;
 pub use mailbox::request::{Request, Values};
 pub use mailbox::{Order, Reply};
 pub use map::{Entry, Header, Map, Part, Size, Word};
-pub use map::{BUFFERED, HARDWARE, LIFE_CYCLE, OLDER_GUIDE, SECRET, SLOT, SOFTWARE, ZEROIZABLE};
+pub use map::{HARDWARE, LIFE_CYCLE, OLDER_GUIDE, SECRET, SLOT, SOFTWARE, ZEROIZABLE};
 pub use partition::{Partition, State};
 pub use refusal::Refusal;
 pub use why::Reason;

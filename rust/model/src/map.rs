@@ -4,7 +4,7 @@ mod fields;
 mod rules;
 
 pub use fields::{Entry, Header, HARDWARE, LIFE_CYCLE, SOFTWARE};
-pub use fields::{BUFFERED, OLDER_GUIDE, SECRET, SLOT, ZEROIZABLE};
+pub use fields::{OLDER_GUIDE, SECRET, SLOT, ZEROIZABLE};
 pub use rules::{broken_rules, Rule};
 
 /// "The map of the fuses": the fields of an image that breaks no rule.

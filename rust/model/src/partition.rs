@@ -61,14 +61,6 @@ impl<'a> Partition<'a> {
         self.entry.zeroizable() && indicator.map_or(false, |pair| fuse::ones(pair) >= 1)
     }
 
-    /// "Burning and counting": "*counted as zeroized* when it is zeroizable and its indicator is
-    /// not short". P4: it "keeps its meaning".
-    pub fn counted(&self) -> bool {
-        let indicator = self.pairs().last();
-        let long = indicator.map_or(false, |pair| !fuse::short(pair, self.bound));
-        self.entry.zeroizable() && long
-    }
-
     /// P4: "Erased now means marked with no short pair besides the indicator; torn means marked
     /// otherwise; blank and programmed mean not marked." These two are told apart by the data.
     pub fn state(&self) -> State {

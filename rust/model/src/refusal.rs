@@ -7,8 +7,7 @@ pub enum Refusal {
     BadMap = 1,
     /// "cells or marks not C long; for the mailbox also block not 128 or
     /// response buffer under 20 bytes", 40 by document 02, P6, "and a table count outside 1 to 3";
-    /// by P9 "also for a restart, READ or check whose buffer is not C long"; in the status program
-    /// ("The small drive") also a length or a map that is cut short
+    /// in the status program ("The small drive") also a length or a map that is cut short
     WrongLength = 2,
     /// "unknown code"
     UnknownCode = 3,

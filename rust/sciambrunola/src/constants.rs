@@ -2,14 +2,14 @@
 
 /// The version of the header and of the archive: it grows by one whenever something
 /// changes for a caller (`docs/CHANGES.md`).
-pub const VERSION: u32 = 13;
+pub const VERSION: u32 = 12;
 /// The bytes of the engine block.
 pub const BLOCK_BYTES: usize = 128;
 /// The bytes of the shortest response buffer that any command accepts: those of the longest
 /// response, EHDL's.
 pub const LEAST_RESPONSE: usize = 40;
 /// The words of a [`Context`](crate::Context).
-pub const CONTEXT_WORDS: usize = 70;
+pub const CONTEXT_WORDS: usize = 38;
 /// The places of the key cache.
 pub const PLACES: usize = 16;
 /// The most handles that the table has.
@@ -63,20 +63,15 @@ pub mod flag {
     /// Its ZEROIZE is that of the older guide, whose answer tells nothing of stuck fuses: see
     /// [`Answer::Word`](crate::Answer::Word). Only a zeroizable partition has it.
     pub const OLDER_GUIDE: u32 = 8;
-    /// READ of its words answers from the buffer, which [`restart`](crate::restart) fills, and
-    /// [`check_buffer`](crate::check_buffer) checks it. Any partition may have it.
-    pub const BUFFERED: u32 = 16;
 }
 
 /// The refusal numbers.
 pub mod refusal {
     /// The map breaks a rule.
     pub const MAP: u32 = 1;
-    /// Cells or marks are not as many as the map says, or, for READ,
-    /// [`restart`](crate::restart) and [`check_buffer`](crate::check_buffer), the buffer's cells;
-    /// block or response buffer have not the length they need, or the context has no table, or
-    /// one whose count is not 1 to [`HANDLES`](crate::HANDLES); also what
-    /// [`make_table`](crate::make_table) refuses.
+    /// Cells or marks are not as many as the map says, block or response buffer have not
+    /// the length they need, or the context has no table, or one whose count is not 1 to
+    /// [`HANDLES`](crate::HANDLES); also what [`make_table`](crate::make_table) refuses.
     pub const LENGTHS: u32 = 2;
     /// Unknown code.
     pub const CODE: u32 = 3;

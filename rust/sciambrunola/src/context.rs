@@ -1,16 +1,13 @@
 //! What the key block keeps between calls.
 
-use crate::buffer::BufferNumbers;
 use crate::constants::CONTEXT_WORDS;
 use crate::raw;
 
 /// All that the key block keeps between calls: the key cache with its
-/// [`PLACES`](crate::PLACES) places, whether the engine's reply is awaited, the table of
-/// handles, and for each partition the numbers beside the buffer. A new one has every place
-/// empty, no reply is awaited, there is no table, and zeros stand beside the buffer. Make the
-/// table by [`make_table`](crate::make_table), without which every mailbox command is
-/// refused, with 2 unless 1 applies, and call [`restart`](crate::restart), with which a drive
-/// begins.
+/// [`PLACES`](crate::PLACES) places, whether the engine's reply is awaited, and the table of
+/// handles. A new one has every place empty, no reply is awaited, and there is no table:
+/// make it by [`make_table`](crate::make_table), without which every mailbox command is
+/// refused, with 2 unless 1 applies.
 ///
 /// Keep one for each drive, and lend it to every call on it. Keep it over restarts and a
 /// loss of power too, for the table's sake: by its [`words`](Context::words).
@@ -39,8 +36,8 @@ pub enum Place {
 }
 
 impl Context {
-    /// The context before the first call: every place is empty, no reply is awaited, there is
-    /// no table, and no partition has ones or is skipped.
+    /// The context before the first call: every place is empty, no reply is awaited, and
+    /// there is no table.
     #[must_use]
     pub const fn new() -> Context {
         Context { words: [0; CONTEXT_WORDS] }
@@ -54,21 +51,8 @@ impl Context {
         }
     }
 
-    /// What stands beside the buffer for this partition, buffered or not: the ones of its cells
-    /// in the buffer, and whether its check is skipped. The ones are true of the buffer from a
-    /// [`restart`](crate::restart) on, while only these calls change buffer and context. 0 and
-    /// not skipped for a partition that the map of that restart does not have. Of a secret
-    /// partition too the ones are told: they are for the drive, and not for a host.
-    pub fn buffer_numbers(&self, i: usize) -> BufferNumbers {
-        match u32::try_from(i) {
-            Ok(number) => BufferNumbers::from_raw(raw::buffer_numbers(self, number)),
-            Err(_) => BufferNumbers { ones: 0, skipped: false },
-        }
-    }
-
-    /// The context whose [`words`](Context::words) were saved, by this version; or by version
-    /// 12, which had 38, with zeros behind them. It has the key cache and the buffer's numbers
-    /// of then: call [`restart`](crate::restart).
+    /// The context whose [`words`](Context::words) were saved, by this version. It has the
+    /// key cache of then: call [`restart`](crate::restart).
     #[must_use]
     pub const fn from_words(words: [u64; CONTEXT_WORDS]) -> Context {
         Context { words }

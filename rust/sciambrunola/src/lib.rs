@@ -1,8 +1,7 @@
 //! The proved key block of a drive controller: the map of its fuses, read and
 //! written, the states of its partitions, why it offers no key, direct commands on
-//! its fuses, the erasure of a partition, the buffer of its fuses, filled by a restart and
-//! checked, the key cache of 16 places, the table of transport handles, the mailbox, and
-//! the engine's reply to its orders.
+//! its fuses, the erasure of a partition, the key cache of 16 places, the table of
+//! transport handles, the mailbox, and the engine's reply to its orders.
 //!
 //! Every function answers for any bytes and any lengths, and a refusal changes
 //! nothing that is lent. The refusal numbers (see [`refusal`]), the fields of the
@@ -16,12 +15,7 @@
 //!
 //! It has no memory of its own: what it keeps between calls is in a [`Context`],
 //! which is the caller's. Its table is made once, by [`make_table`], before the first
-//! mailbox command. The buffer is the caller's too: as many cells as the map says, which
-//! [`restart`] fills from the fuses and no other call changes. A drive begins with a restart,
-//! and restarts after a power failure. READ of a buffered partition ([`flag::BUFFERED`])
-//! answers from the buffer, and so sees no burn before the next restart; all else goes by the
-//! fuses. The buffer has the cells of secret partitions too, after an erasure until the next
-//! restart: keep that memory from others.
+//! mailbox command.
 //!
 //! The archive is built for x86-64 Linux (System V calling convention),
 //! position-independent, with no heap, no C library and no undefined symbol, so
@@ -33,7 +27,6 @@
 #![deny(unsafe_code)]
 
 mod answer;
-mod buffer;
 mod constants;
 mod context;
 mod engine;
@@ -44,7 +37,6 @@ mod reason;
 mod states;
 
 pub use answer::{Answer, Erasure, Order, Reply};
-pub use buffer::{check_buffer, restart, BufferNumbers, Consistency};
 pub use constants::{code, flag, kind, refusal};
 pub use constants::{BLOCK_BYTES, CONTEXT_WORDS, HANDLES, LEAST_RESPONSE, PARTITIONS, PLACES};
 pub use constants::{LONGEST_IMAGE, NO_CELL, NO_SLOT, VERSION};
@@ -58,7 +50,7 @@ pub use states::{Listing, State, States};
 /// first cell in the whole array.
 #[derive(Clone, Copy, Debug, PartialEq, Eq)]
 pub enum Command {
-    /// Answers the word, in a buffered partition as it stands in the buffer.
+    /// Answers the word.
     Read {
         /// The word's first cell.
         cell: u32,
@@ -110,7 +102,7 @@ pub fn write_map(text: &[u8], image: &mut [u8]) -> Result<usize, u32> {
 /// The states do not depend on the marks, but marks that are not as many as the
 /// map says are refused too.
 pub fn states(image: &[u8], cells: &[u32], marks: &[u32]) -> States {
-    States::of(raw::Fuses { image, cells, marks })
+    States::of(image, cells, marks)
 }
 
 /// Why the drive offers no key: walks the map's slots until the first that is not
@@ -119,28 +111,25 @@ pub fn states(image: &[u8], cells: &[u32], marks: &[u32]) -> States {
 /// The reason does not depend on the marks, but marks that are not as many as the
 /// map says are refused too.
 pub fn why(image: &[u8], cells: &[u32], marks: &[u32]) -> Reason {
-    Reason::from_raw(raw::why(raw::Fuses { image, cells, marks }))
+    Reason::from_raw(raw::why(image, cells, marks))
 }
 
 /// Carries out a direct command on the fuses that `image` maps.
 ///
 /// `cells` and `marks` are the fuse cells and their stuck marks. Only the
-/// fuses of the word that is named may change, and none on refusal. READ alone looks at the
-/// `buffer`, its length too: it answers a word of a buffered partition from there. The context
-/// stays as it is, but that after a ZEROIZE that answered a word the partition's check is
-/// skipped until the next restart.
+/// fuses of the word that is named may change, and none on refusal; the context
+/// stays as it is.
 #[inline]
 pub fn direct(
     image: &[u8],
     cells: &mut [u32],
     marks: &[u32],
-    buffer: &[u32],
     context: &mut Context,
     command: Command,
 ) -> Answer {
     let drive = raw::Drive { image, cells, marks, context };
     Answer::from_raw(match command {
-        Command::Read { cell } => raw::read(drive, buffer, cell),
+        Command::Read { cell } => raw::read(drive, cell),
         Command::Write { cell, value } => raw::write(drive, cell, value),
         Command::Zeroize { cell } => raw::zeroize(drive, cell),
     })
@@ -151,8 +140,7 @@ pub fn direct(
 ///
 /// A short word does not stop it, nor does a short indicator. An indicator without a
 /// set fuse does, with refusal 15: every fuse of it is stuck. That changes nothing, as
-/// any refusal. The context stays as it is, but that after an erasure that ended the
-/// partition's check is skipped until the next restart.
+/// any refusal. The context stays as it is.
 ///
 /// It may end with the partition torn: see [`Erasure::Ended`].
 #[inline]
@@ -169,11 +157,11 @@ pub fn erase(
 /// The same erasure where the power fails at burn `k`, counted from 0: that burn
 /// has `mask` in place of all ones, of which a 32-bit word takes the low 32
 /// bits, nothing follows, every place of the key cache is emptied, and an awaited reply
-/// of the engine is dropped; the rest of the context stays, the table of handles and what
-/// stands beside the buffer: a drive restarts after a power failure. It is for trying out what
-/// a drive does then, and not for a host: see [`Erasure::Cut`].
+/// of the engine is dropped; the table of handles stays. It is for trying out what a drive
+/// does after a power failure, and not for a host: see [`Erasure::Cut`].
 ///
-/// Where the erasure ends before burn `k`, or is refused, it is [`erase`].
+/// Where the erasure ends before burn `k`, or is refused, it is [`erase`], and
+/// the context stays as it is.
 #[inline]
 pub fn erase_cut(
     image: &[u8],
@@ -188,16 +176,25 @@ pub fn erase_cut(
     Erasure::from_raw(raw::erase_cut(drive, partition, k, mask))
 }
 
+/// For when the drive has restarted, and the engine with it: empties every place of the
+/// key cache and drops an awaited reply of the engine, and changes nothing else: the table
+/// of handles stays.
+///
+/// No order is given to the engine. To free a slot in operation use KUNL or CLKC.
+pub fn restart(context: &mut Context) {
+    raw::restart(context);
+}
+
 /// Carries out the mailbox command that `code` names (see [`code`]), with this
 /// request. The context has a table, by [`make_table`]; the block has [`BLOCK_BYTES`], the
 /// response [`LEAST_RESPONSE`] or more.
 ///
-/// An accepted command writes its response to the start of `response` and, where it has an order
-/// for the engine, the engine block to `block`. Nothing else changes but the key cache, by RHPK the
-/// table, and by FERS, which is [`erase`], the cells and whether the partition's check is skipped;
-/// and nothing at all on refusal. FERS that is accepted has erased the partition exactly if the
-/// response's short pairs are 0 or its first short cell is the indicator's; its last field is the
-/// fuses that were newly set (see [`Erasure::Ended`]).
+/// An accepted command writes its response to the start of `response` and,
+/// where it has an order for the engine, the engine block to `block`. Nothing
+/// else changes but the key cache, by RHPK the table, and by FERS, which is [`erase`], the
+/// cells; and nothing at all on refusal. FERS that is accepted has erased the partition
+/// exactly if the response's short pairs are 0 or its first short cell is the indicator's;
+/// its last field is the fuses that were newly set (see [`Erasure::Ended`]).
 ///
 /// KLOD, KUNL and CLKC have an order. Hand it to the engine with the block, and the
 /// engine's reply to [`engine_reply`]. Until then the place of the key waits, for CLKC

@@ -21,14 +21,6 @@ pub(crate) struct Drive<'a> {
     pub(crate) context: &'a mut Context,
 }
 
-/// A drive as the functions are lent it that change no cell.
-#[derive(Clone, Copy)]
-pub(crate) struct Fuses<'a> {
-    pub(crate) image: &'a [u8],
-    pub(crate) cells: &'a [u32],
-    pub(crate) marks: &'a [u32],
-}
-
 /// What the mailbox is lent besides.
 pub(crate) struct Buffers<'a> {
     pub(crate) request: &'a [u8],
@@ -36,43 +28,33 @@ pub(crate) struct Buffers<'a> {
     pub(crate) block: &'a mut [u8],
 }
 
-/// Declares functions of the archive that are lent fuses. Before the parameters that
-/// stand here they have the pointers of image, cells and marks, each with its count;
-/// that of the cells is of the type that stands before the function.
-macro_rules! lent_fuses {
-    ($(($cells:ty) fn $function:ident($($parameter:ident: $type:ty),*) -> $answer:ty;)*) => {
+/// Declares functions of the archive that are lent a drive. Before the parameters
+/// that stand here they have the drive's: each part's pointer, then its count; the
+/// context has none.
+macro_rules! lent_a_drive {
+    ($(fn $function:ident($($parameter:ident: $type:ty),*) -> $answer:ty;)*) => {
         extern "C" {
             $(fn $function(
                 image: *const u8,
                 image_bytes: usize,
-                cells: $cells,
+                cells: *mut u32,
                 cell_count: usize,
                 marks: *const u32,
                 mark_count: usize,
+                context: *mut Context,
                 $($parameter: $type),*
             ) -> $answer;)*
         }
     };
 }
 
-lent_fuses! {
-    (*mut u32) fn sci_read(
-        buffer: *const u32,
-        buffer_count: usize,
-        context: *mut Context,
-        cell: u32
-    ) -> Answer;
-    (*mut u32) fn sci_write(context: *mut Context, cell: u32, value: u64) -> Answer;
-    (*mut u32) fn sci_zeroize(context: *mut Context, cell: u32) -> Answer;
-    (*mut u32) fn sci_erase(context: *mut Context, partition: u32) -> Erasure;
-    (*mut u32) fn sci_erase_cut(
-        context: *mut Context,
-        partition: u32,
-        k: u32,
-        mask: u64
-    ) -> Erasure;
-    (*mut u32) fn sci_mailbox(
-        context: *mut Context,
+lent_a_drive! {
+    fn sci_read(cell: u32) -> Answer;
+    fn sci_write(cell: u32, value: u64) -> Answer;
+    fn sci_zeroize(cell: u32) -> Answer;
+    fn sci_erase(partition: u32) -> Erasure;
+    fn sci_erase_cut(partition: u32, k: u32, mask: u64) -> Erasure;
+    fn sci_mailbox(
         code: u32,
         request: *const u8,
         request_bytes: usize,
@@ -81,19 +63,6 @@ lent_fuses! {
         block: *mut u8,
         block_bytes: usize
     ) -> Reply;
-    (*const u32) fn sci_states(states: *mut u32, short_pairs: *mut u32) -> Listing;
-    (*const u32) fn sci_why() -> Reason;
-    (*const u32) fn sci_restart(
-        buffer: *mut u32,
-        buffer_count: usize,
-        context: *mut Context
-    ) -> u32;
-    (*const u32) fn sci_check_buffer(
-        buffer: *const u32,
-        buffer_count: usize,
-        context: *const Context,
-        partition: u32
-    ) -> Consistency;
 }
 
 extern "C" {
@@ -106,9 +75,29 @@ extern "C" {
         image_bytes: usize,
     ) -> Written;
 
+    fn sci_states(
+        image: *const u8,
+        image_bytes: usize,
+        cells: *const u32,
+        cell_count: usize,
+        marks: *const u32,
+        mark_count: usize,
+        states: *mut u32,
+        short_pairs: *mut u32,
+    ) -> Listing;
+
+    fn sci_why(
+        image: *const u8,
+        image_bytes: usize,
+        cells: *const u32,
+        cell_count: usize,
+        marks: *const u32,
+        mark_count: usize,
+    ) -> Reason;
+
     fn sci_cache_place(context: *const Context, place: u32) -> Place;
 
-    fn sci_buffer_numbers(context: *const Context, partition: u32) -> Numbers;
+    fn sci_restart(context: *mut Context);
 
     fn sci_engine_reply(context: *mut Context, reply: u32, vendor: u32) -> u32;
 
@@ -121,33 +110,26 @@ extern "C" {
     ) -> u32;
 }
 
-/// Calls a function of the archive with image, cells and marks, each pointer with its
-/// count, before its other arguments. The cells' pointer is what this method of theirs gives.
+/// Calls a function of the archive with the parts of a drive, each pointer
+/// with its count, before its other arguments.
 macro_rules! call {
-    ($function:ident, $image:ident, $cells:ident.$pointer:ident, $marks:ident
-        $(, $argument:expr)*) => {
-        // SAFETY: every pointer and count is that of a borrowed slice, array or context.
+    ($function:ident, $drive:expr $(, $argument:expr)*) => {{
+        let Drive { image, cells, marks, context } = $drive;
+        // SAFETY: every pointer and count is that of a borrowed slice or context.
         // A pointer that is not const is that of a mutable borrow, which
         // overlaps no other borrow; the const ones are only read.
         unsafe {
             $function(
-                $image.as_ptr(),
-                $image.len(),
-                $cells.$pointer(),
-                $cells.len(),
-                $marks.as_ptr(),
-                $marks.len(),
+                image.as_ptr(),
+                image.len(),
+                cells.as_mut_ptr(),
+                cells.len(),
+                marks.as_ptr(),
+                marks.len(),
+                context,
                 $($argument),*
             )
         }
-    };
-}
-
-/// The same with the parts of a drive, whose context is the next argument.
-macro_rules! call_on_drive {
-    ($function:ident, $drive:expr $(, $argument:expr)*) => {{
-        let Drive { image, cells, marks, context } = $drive;
-        call!($function, image, cells.as_mut_ptr, marks, context $(, $argument)*)
     }};
 }
 
@@ -164,16 +146,32 @@ pub(crate) fn write_map(text: &[u8], image: &mut [u8]) -> Written {
 }
 
 pub(crate) fn states(
-    Fuses { image, cells, marks }: Fuses,
+    image: &[u8],
+    cells: &[u32],
+    marks: &[u32],
     states: &mut [u32; PARTITIONS],
     short_pairs: &mut [u32; PARTITIONS],
 ) -> Listing {
-    let (states, short_pairs) = (states.as_mut_ptr(), short_pairs.as_mut_ptr());
-    call!(sci_states, image, cells.as_ptr, marks, states, short_pairs)
+    // SAFETY: every pointer and count is that of a borrowed slice, which is only
+    // read, or that of an array of 16, borrowed mutably.
+    unsafe {
+        sci_states(
+            image.as_ptr(),
+            image.len(),
+            cells.as_ptr(),
+            cells.len(),
+            marks.as_ptr(),
+            marks.len(),
+            states.as_mut_ptr(),
+            short_pairs.as_mut_ptr(),
+        )
+    }
 }
 
-pub(crate) fn why(Fuses { image, cells, marks }: Fuses) -> Reason {
-    call!(sci_why, image, cells.as_ptr, marks)
+pub(crate) fn why(image: &[u8], cells: &[u32], marks: &[u32]) -> Reason {
+    let (map, fuses, stuck) = (image.as_ptr(), cells.as_ptr(), marks.as_ptr());
+    // SAFETY: every pointer and count is that of a borrowed slice, which is only read.
+    unsafe { sci_why(map, image.len(), fuses, cells.len(), stuck, marks.len()) }
 }
 
 pub(crate) fn cache_place(context: &Context, place: u32) -> Place {
@@ -181,57 +179,34 @@ pub(crate) fn cache_place(context: &Context, place: u32) -> Place {
     unsafe { sci_cache_place(context, place) }
 }
 
-pub(crate) fn buffer_numbers(context: &Context, partition: u32) -> Numbers {
-    // SAFETY: the pointer is that of a borrow, which is only read.
-    unsafe { sci_buffer_numbers(context, partition) }
-}
-
 #[inline]
-pub(crate) fn read(drive: Drive, buffer: &[u32], cell: u32) -> Answer {
-    let Drive { image, cells, marks, context } = drive;
-    let (pointer, count) = (buffer.as_ptr(), buffer.len());
-    call!(sci_read, image, cells.as_mut_ptr, marks, pointer, count, context, cell)
+pub(crate) fn read(drive: Drive, cell: u32) -> Answer {
+    call!(sci_read, drive, cell)
 }
 
 #[inline]
 pub(crate) fn write(drive: Drive, cell: u32, value: u64) -> Answer {
-    call_on_drive!(sci_write, drive, cell, value)
+    call!(sci_write, drive, cell, value)
 }
 
 #[inline]
 pub(crate) fn zeroize(drive: Drive, cell: u32) -> Answer {
-    call_on_drive!(sci_zeroize, drive, cell)
+    call!(sci_zeroize, drive, cell)
 }
 
 #[inline]
 pub(crate) fn erase(drive: Drive, partition: u32) -> Erasure {
-    call_on_drive!(sci_erase, drive, partition)
+    call!(sci_erase, drive, partition)
 }
 
 #[inline]
 pub(crate) fn erase_cut(drive: Drive, partition: u32, k: u32, mask: u64) -> Erasure {
-    call_on_drive!(sci_erase_cut, drive, partition, k, mask)
+    call!(sci_erase_cut, drive, partition, k, mask)
 }
 
-#[inline]
-pub(crate) fn restart(
-    Fuses { image, cells, marks }: Fuses,
-    buffer: &mut [u32],
-    context: &mut Context,
-) -> u32 {
-    let (pointer, count) = (buffer.as_mut_ptr(), buffer.len());
-    call!(sci_restart, image, cells.as_ptr, marks, pointer, count, context)
-}
-
-#[inline]
-pub(crate) fn check_buffer(
-    Fuses { image, cells, marks }: Fuses,
-    buffer: &[u32],
-    context: &Context,
-    partition: u32,
-) -> Consistency {
-    let (pointer, count) = (buffer.as_ptr(), buffer.len());
-    call!(sci_check_buffer, image, cells.as_ptr, marks, pointer, count, context, partition)
+pub(crate) fn restart(context: &mut Context) {
+    // SAFETY: the pointer is that of a mutable borrow.
+    unsafe { sci_restart(context) }
 }
 
 #[inline]
@@ -250,7 +225,7 @@ pub(crate) fn make_table(context: &mut Context, handles: &[u32], algorithms: &[u
 #[inline]
 pub(crate) fn mailbox(drive: Drive, code: u32, buffers: Buffers) -> Reply {
     let Buffers { request, response, block } = buffers;
-    call_on_drive!(
+    call!(
         sci_mailbox,
         drive,
         code,

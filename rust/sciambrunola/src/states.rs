@@ -84,11 +84,12 @@ impl Listing {
 impl States {
     /// The states of a drive, asked for by the archive's call, which writes them
     /// in place.
-    pub(crate) fn of(fuses: raw::Fuses) -> States {
+    pub(crate) fn of(image: &[u8], cells: &[u32], marks: &[u32]) -> States {
         let mut listing =
             Listing { partitions: 0, states: [0; PARTITIONS], short_pairs: [0; PARTITIONS] };
         let Listing { states, short_pairs, .. } = &mut listing;
-        let raw::Listing { refusal, partitions } = raw::states(fuses, states, short_pairs);
+        let raw::Listing { refusal, partitions } =
+            raw::states(image, cells, marks, states, short_pairs);
         listing.partitions = partitions;
         match refusal {
             0 => States::Listed(listing),

@@ -31,13 +31,13 @@ same-length-2 : tie.Need-same-length-2
 same-length-2 c = search rules
 
 returns-2 : tie.Need-returns-2
-returns-2 c = rw c.before.before.before.before.before.before.command2.given.1 (c.before.before.write.ensures _)
+returns-2 c = rw c.before.before.before.before.before.before.command2.given.1 c.before.before.write.ensures
 
 same-length-3 : tie.Need-same-length-3
 same-length-3 c = search rules
 
 returns-3 : tie.Need-returns-3
-returns-3 c = rw c.before.before.before.before.before.before.command3.given.1 (c.before.before.zeroize.ensures _)
+returns-3 c = rw c.before.before.before.before.before.before.command3.given.1 c.before.before.zeroize.ensures
 
 pub run_spec : {M : Type 1} → statement M
 run_spec =

@@ -1,8 +1,6 @@
 -- `direct::write` meets its contract: 8, 9 and 10 by its tests; else its word is burned. Assumes nothing.
-use Prim.Native.Nat.{ℕ}
 use mathlib.Core.Path.{◌≡◌, refl, sym, ◌∙◌}
 use mathlib.Core.Bool.{false}
-use mathlib.Core.List.{List, []}
 use Rattle.direct.specs.declared.Command.TheVariants.{Write}
 use Rattle.direct.specs.declared.Found.TheVariants.{Word}
 use Rattle.direct.specs.Direct.{forbidden, clears, changes_slot, cells_after, new_after, found_of}
@@ -11,14 +9,12 @@ use borrow.Author.Rules.{rules}
 use Rattle.direct.proofs.write.Statement.{statement}
 use Rattle.direct.proofs.write.Tie as tie
 
--- the word that was found, whatever the buffer
-at-word : (c : tie.After-partition) (buffer : List ℕ)
+-- the word that was found
+at-word : (c : tie.After-partition)
     → let a = c.before.before.before.before.before.before.before.before.args in
     let w = c.partition.given.0 in
-    Word w.0 w.1.0 w.1.1.0 ≡ found_of (Write a.cell a.value) a.image.now a.cells.now a.marks.now buffer
-at-word c buffer =
-    let looked = c.before.before in
-    found_is _ _ _ _ _ looked.before.check-drive.ensures looked.find.ensures c.partition.given.1
+    Word w.0 w.1.0 w.1.1.0 ≡ found_of a.image.now a.cells.now a.marks.now a.cell
+at-word c = let looked = c.before.before in found_is _ _ _ _ looked.before.check-drive.ensures looked.find.ensures c.partition.given.1
 
 -- past 8, and past 9
 abbrev found_before : tie.Else1 → tie.After-partition
@@ -37,7 +33,7 @@ keeps : (c : tie.Else2)
     → let found = found_before c.before.before.before in
     let a = found.before.before.before.before.before.before.before.before.args in
     clears (Write a.cell a.value) a.cells.now found.partition.given.0.1.1.0 ≡ false
-keeps c = write_keeps _ _ _ _ c.before.word-of.ensures c.if2.false
+keeps c = write_keeps _ _ _ _ c.before.word_of.ensures c.if2.false
 
 check-drive-requires : tie.Need-check-drive-requires
 check-drive-requires c κs = search rules
@@ -57,7 +53,7 @@ is-slot-in-use-requires c κs = search rules
 marked-at-requires : tie.Need-marked-at-requires
 marked-at-requires c κs =
     let found = c.before.before.before in
-    let n = named _ _ _ _ _ (at-word found []) in
+    let n = named _ _ _ _ (at-word found) in
     (n.whole, n.partition)
 
 read-entry-requires : tie.Need-read-entry-requires
@@ -74,11 +70,11 @@ returns c =
     let found = c.before.before.before.before.before.before.before.before in
     let forbidden = sym (write_forbidden _ _ c.before.before.before.read-entry.ensures _ _ _ _ _ c.before.before.is-data.ensures
     c.before.before.before.before.marked-at.ensures) ∙ c.if1.true in
-    λ buffer. word_at_lem _ _ _ _ _ (at-word found buffer) 0 tt forbidden
+    word_at_lem _ _ _ _ (at-word found) 0 tt forbidden
 
 word-of-requires : tie.Need-word-of-requires
 word-of-requires c κs =
-    (named _ _ _ _ _ (at-word (found_before c.before) [])).within
+    (named _ _ _ _ (at-word (found_before c.before))).within
 
 same-length-2 : tie.Need-same-length-2
 same-length-2 c = search rules
@@ -86,7 +82,7 @@ same-length-2 c = search rules
 returns-2 : tie.Need-returns-2
 returns-2 c =
     let passed = c.before.before.before in
-    λ buffer. word_at_lem _ _ _ _ _ (at-word (found_before passed) buffer) 1 (may passed, tt) (write_clears _ _ _ _ c.before.word-of.ensures c.if2.true)
+    word_at_lem _ _ _ _ (at-word (found_before passed)) 1 (may passed, tt) (write_clears _ _ _ _ c.before.word_of.ensures c.if2.true)
 
 same-length-3 : tie.Need-same-length-3
 same-length-3 c = search rules
@@ -97,17 +93,17 @@ returns-3 c =
     let kept = c.before in
     let passed = kept.before.before.before in
     let held = sym passed.before.before.before.before.before.before.is-slot-in-use.ensures ∙ c.if3.true in
-    λ buffer. word_at_lem _ _ _ _ _ (at-word (found_before passed) buffer) 2 (may passed, (keeps kept, tt)) held
+    word_at_lem _ _ _ _ (at-word (found_before passed)) 2 (may passed, (keeps kept, tt)) held
 
 burn-word-requires : tie.Need-burn-word-requires
 burn-word-requires c κs =
-    let n = named _ _ _ _ _ (at-word (found_before c.before.before.before.before.before) []) in
+    let n = named _ _ _ _ (at-word (found_before c.before.before.before.before.before)) in
     (n.within, rw n.marks_long n.within)
 
 written-requires : tie.Need-written-requires
 written-requires c κs =
     let passed = c.before.before.before.before.before.before.before.before.before in
-    search (rules, (named _ _ _ _ _ (at-word (found_before passed) [])).within)
+    search (rules, (named _ _ _ _ (at-word (found_before passed))).within)
 
 same-length-4 : tie.Need-same-length-4
 same-length-4 c = search rules
@@ -115,7 +111,7 @@ same-length-4 c = search rules
 returns-4 : tie.Need-returns-4
 returns-4 c =
     let looked = c.before.before.before in
-    λ buffer. find_refused _ _ _ _ _ (found_is (Write _ _) _ _ _ _ looked.before.check-drive.ensures looked.find.ensures c.before.number.given.1)
+    find_refused _ _ _ _ (found_is _ _ _ _ looked.before.check-drive.ensures looked.find.ensures c.before.number.given.1)
 
 same-length-5 : tie.Need-same-length-5
 same-length-5 c = search rules
@@ -128,9 +124,8 @@ returns-5 c =
     let kept = idle.before in
     let passed = kept.before.before.before in
     let free = sym passed.before.before.before.before.before.before.is-slot-in-use.ensures ∙ idle.if3.false in
-    λ buffer.
-    word_carried _ _ _ _ _ (at-word (found_before passed) buffer) (may passed, (keeps kept, (free, tt))) burned.burn-word.ensures.0
-    burned.burn-word.ensures.1 refl passed.before.before.before.read-entry.ensures refl c.written.ensures refl
+    word_carried _ _ _ _ (at-word (found_before passed)) (may passed, (keeps kept, (free, tt))) burned.burn-word.ensures.0 burned.burn-word.ensures.1 refl
+    passed.before.before.before.read-entry.ensures refl c.written.ensures
 
 pub write_spec : {M : Type 1} → statement M
 write_spec =

@@ -13,7 +13,7 @@ word-of-requires : tie.Need-word-of-requires
 word-of-requires c κs = search rules
 
 returns-2 : tie.Need-returns-2
-returns-2 c = rw (← c.before.before.is_secret.ensures, c.before.if1.false, ← c.word-of.ensures)
+returns-2 c = rw (← c.before.before.is_secret.ensures, c.before.if1.false, ← c.word_of.ensures)
 
 pub written-spec : {M : Type 1} → statement M
 written-spec = tie.close (tie.spec is-secret-requires returns word-of-requires returns-2)

@@ -1,4 +1,4 @@
--- `erasure::erase` meets its contract: judged, then run and not cut; its end is noted. Assumes nothing.
+-- `erasure::erase` meets its contract: judged, then run and not cut. Assumes nothing.
 use Rattle.context.specs.State.{state}
 use Rattle.erasure.specs.Laws.{erase_refused, erase_runs, erasable}
 use borrow.Author.Rules.{rules}
@@ -24,18 +24,15 @@ erase-judged-requires c κs =
     let a = check.before.before.before.before.before.args in
     erasable _ _ _ (state a.cells.now a.context.now) check.check-drive.ensures judged.refusal-by.ensures c.before.if1.false
 
-note-end-requires : tie.Need-note-end-requires
-note-end-requires c κs = search rules
-
 same-length-2 : tie.Need-same-length-2
 same-length-2 c = search rules
 
 returns-2 : tie.Need-returns-2
 returns-2 c =
-    let ran = c.before.before.before.before in
+    let ran = c.before.before in
     let run = ran.before.before in
     let judged = run.before in
-    erase_runs _ _ _ _ judged.before.before.check-drive.ensures judged.refusal-by.ensures _ _ run.if1.false ran.erase-judged.ensures c.note-end.ensures
+    erase_runs _ _ _ _ judged.before.before.check-drive.ensures judged.refusal-by.ensures _ _ run.if1.false ran.erase-judged.ensures
 
 pub erase-spec : {M : Type 1} → statement M
 erase-spec =
@@ -46,6 +43,5 @@ erase-spec =
     same_length
     returns
     erase-judged-requires
-    note-end-requires
     same-length-2
     returns-2)

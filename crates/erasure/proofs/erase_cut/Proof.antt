@@ -1,4 +1,4 @@
--- `erasure::erase_cut` meets its contract: judged, then run; its end is noted, and the cache is emptied where the erasure was cut. Assumes nothing.
+-- `erasure::erase_cut` meets its contract: judged, then run; the cache is emptied where the erasure was cut. Assumes nothing.
 use mathlib.Core.Path.{refl, sym, ◌∙◌}
 use Rattle.context.specs.State.{state}
 use Rattle.erasure.specs.Laws.{erase_refused, erase_runs, erasable, cut_left, uncut_left}
@@ -27,9 +27,6 @@ run-judged-requires c κs =
     let a = check.before.before.before.before.before.args in
     erasable _ _ _ (state a.cells.now a.context.now) check.check-drive.ensures judged.refusal-by.ensures c.before.if1.false
 
-note-end-requires : tie.Need-note-end-requires
-note-end-requires c κs = search rules
-
 is-cut-requires : tie.Need-is-cut-requires
 is-cut-requires c κs = search rules
 
@@ -42,11 +39,10 @@ same-length-2 c = search rules
 returns-2 : tie.Need-returns-2
 returns-2 c =
     let cut = c.before.before.before in
-    let noted = cut.before in
-    let ran = noted.before.before.before.before in
+    let ran = cut.before.before.before in
     let run = ran.before.before in
     let judged = run.before in
-    cut_left (erase_runs _ _ _ _ judged.before.before.check-drive.ensures judged.refusal-by.ensures _ _ run.if1.false ran.run-judged.ensures noted.note-end.ensures)
+    cut_left (erase_runs _ _ _ _ judged.before.before.check-drive.ensures judged.refusal-by.ensures _ _ run.if1.false ran.run-judged.ensures)
     (sym cut.is_cut.ensures ∙ c.before.before.if2.true) c.clear.ensures
 
 same-length-3 : tie.Need-same-length-3
@@ -54,11 +50,10 @@ same-length-3 c = search rules
 
 returns-3 : tie.Need-returns-3
 returns-3 c =
-    let noted = c.before.before in
-    let ran = noted.before.before.before.before in
+    let ran = c.before.before.before.before in
     let run = ran.before.before in
     let judged = run.before in
-    uncut_left (erase_runs _ _ _ _ judged.before.before.check-drive.ensures judged.refusal-by.ensures _ _ run.if1.false ran.run-judged.ensures noted.note-end.ensures)
+    uncut_left (erase_runs _ _ _ _ judged.before.before.check-drive.ensures judged.refusal-by.ensures _ _ run.if1.false ran.run-judged.ensures)
     (sym c.before.is_cut.ensures ∙ c.if2.false)
 
 pub erase-cut-spec : {M : Type 1} → statement M
@@ -70,7 +65,6 @@ erase-cut-spec =
     same_length
     returns
     run-judged-requires
-    note-end-requires
     is-cut-requires
     clear-requires
     same-length-2

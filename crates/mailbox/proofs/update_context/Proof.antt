@@ -1,6 +1,5 @@
--- `mailbox::update_context` meets its contract: the order, then the rotation, then the flag of what was erased. Assumes nothing.
+-- `mailbox::update_context` meets its contract: the order, then the rotation. Assumes nothing.
 use mathlib.Core.Path.{ap, ◌∙◌}
-use Rattle.buffer.specs.Buffer.{skipping}
 use Rattle.handles.specs.Handles.{rotated_at}
 use borrow.Author.Rules.{rules}
 use Rattle.mailbox.proofs.update_context.Statement.{statement}
@@ -12,15 +11,11 @@ await-reply-requires c κs = search rules
 rotate-requires : tie.Need-rotate-requires
 rotate-requires c κs = search rules
 
-skip-requires : tie.Need-skip-requires
-skip-requires c κs = search rules
-
 returns : tie.Need-returns
 returns c =
-    let rotated = c.before.before in
-    let ordered = rotated.before.before.before in
+    let ordered = c.before.before.before in
     let e = ordered.before.before.args.effect in
-    c.skip.ensures ∙ ap (skipping e.erased) (rotated.rotate.ensures ∙ ap (rotated_at e.rotates e.numbers.first) ordered.await-reply.ensures)
+    c.rotate.ensures ∙ ap (rotated_at e.rotates e.numbers.first) ordered.await-reply.ensures
 
 pub update-context-spec : {M : Type 1} → statement M
-update-context-spec = tie.close (tie.spec await-reply-requires rotate-requires skip-requires returns)
+update-context-spec = tie.close (tie.spec await-reply-requires rotate-requires returns)

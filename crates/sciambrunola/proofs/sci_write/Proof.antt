@@ -16,7 +16,7 @@ same_length : tie.Need-same-length
 same_length c = search rules
 
 returns : tie.Need-returns
-returns c = λ buffer. rw c.flat-answer.ensures (ap (telling answer_numbers) (c.before.before.before.write.ensures buffer))
+returns c = rw c.flat-answer.ensures (ap (telling answer_numbers) c.before.before.before.write.ensures)
 
 pub sci-write-spec : {M : Type 1} → statement M
 sci-write-spec = tie.close (tie.spec write-requires flat-answer-requires same_length returns)

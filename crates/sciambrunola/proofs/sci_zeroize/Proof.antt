@@ -16,7 +16,7 @@ same_length : tie.Need-same-length
 same_length c = search rules
 
 returns : tie.Need-returns
-returns c = λ buffer. rw c.flat-answer.ensures (ap (telling answer_numbers) (c.before.before.before.zeroize.ensures buffer))
+returns c = rw c.flat-answer.ensures (ap (telling answer_numbers) c.before.before.before.zeroize.ensures)
 
 pub sci-zeroize-spec : {M : Type 1} → statement M
 sci-zeroize-spec = tie.close (tie.spec zeroize-requires flat-answer-requires same_length returns)

@@ -2,7 +2,7 @@
 //! refusals that can apply to one call, each reply to each order, and the sights.
 
 use super::outcomes::{came, outcomes};
-use super::{charge, consistency, handles, pairs, sights};
+use super::{charge, handles, pairs, sights};
 use crate::context::REPLIES;
 use crate::layout::Layout;
 use crate::tally::{self, Row};
@@ -25,10 +25,6 @@ const FORBIDDEN: &[Row<Forbids>] = &[
     ("over 32 bits", |named, value| named.word.size == Size::Cell && value > 0xFFFF_FFFF),
 ];
 
-/// All sights.
-const SIGHTS: [&[Row<sights::Sight>]; 4] =
-    [sights::ALL, handles::ALL, charge::ALL, consistency::ALL];
-
 /// What is asked of a partition and of the cells that a call leaves.
 type Holds = fn(&Layout, &[u32]) -> bool;
 
@@ -36,8 +32,8 @@ type Holds = fn(&Layout, &[u32]) -> bool;
 pub fn possible() -> Vec<String> {
     let mut keys = outcomes();
     keys.extend(pairs::possible());
-    keys.extend(tally::names(FORBIDDEN).into_iter().map(alone));
-    keys.extend(SIGHTS.into_iter().flat_map(tally::names));
+    keys.extend(tally::names(FORBIDDEN).into_iter().map(alone).chain(tally::names(sights::ALL)));
+    keys.extend(tally::names(handles::ALL).into_iter().chain(tally::names(charge::ALL)));
     keys.extend(answers());
     keys
 }
@@ -74,14 +70,14 @@ pub struct Seen<'a> {
     pub applying: Vec<Refusal>,
     /// The word that a direct command names.
     pub named: Option<Named>,
-    /// The partitions, for erasures, states, reasons, restarts and checks.
+    /// The partitions, for erasures, states and reasons.
     pub partitions: Vec<Layout>,
 }
 
 /// A word, with what the fuses say of it after the call.
 #[derive(Clone, Copy)]
 pub struct Named {
-    pub entry: Entry,
+    entry: Entry,
     pub word: Word,
     pub stands: u64,
     past_bound: i64,
@@ -94,9 +90,7 @@ impl<'a> Seen<'a> {
     pub fn of(call: &'a Call, before: &'a Lent, said: Said, after: &'a Lent) -> Seen<'a> {
         let (named, partitions) = match call {
             Call::Direct(command) => (named(*command, after), vec![]),
-            Call::Erase(_) | Call::States | Call::Why | Call::Restart | Call::Check(_) => {
-                (None, Layout::all(&after.drive))
-            }
+            Call::Erase(_) | Call::States | Call::Why => (None, Layout::all(&after.drive)),
             _ => (None, vec![]),
         };
         let came = came(call, said);
@@ -105,8 +99,9 @@ impl<'a> Seen<'a> {
 
     /// The keys of all that is met.
     pub fn met(self) -> Vec<String> {
-        let seen = SIGHTS.into_iter().map(|some| tally::that_hold(some, |holds| holds(&self)));
-        let mut met: Vec<String> = seen.flatten().collect();
+        let mut met = tally::that_hold(sights::ALL, |holds| holds(&self));
+        met.extend(tally::that_hold(handles::ALL, |holds| holds(&self)));
+        met.extend(tally::that_hold(charge::ALL, |holds| holds(&self)));
         for (at, first) in self.applying.iter().enumerate() {
             let later = self.applying[at + 1..].iter();
             met.extend(later.map(|later| pairs::key(first.number(), later.number())));

@@ -1,10 +1,10 @@
 //! What calls come to: each by its name and its outcome.
 
-use model::{Answer, Call, Consistency, Erasure, Order, Reason, Reply, Said};
+use model::{Answer, Call, Erasure, Order, Reason, Reply, Said};
 
 /// What each call can come to when it is carried out, and its refusals. The states
 /// come to any number of partitions.
-const OUTCOMES: [(&str, &[&str], &[u32]); 23] = [
+const OUTCOMES: [(&str, &[&str], &[u32]); 21] = [
     ("fields", &KINDS_AND_FLAGS, &[1, 7]),
     ("states", &[], &[1, 2]),
     ("why", &["available", "no slot", "all erased", "blank", "torn"], &[1, 2]),
@@ -15,9 +15,7 @@ const OUTCOMES: [(&str, &[&str], &[u32]); 23] = [
     ("ZEROIZE", &["word", "withheld"], &[1, 2, 7, 8, 10]),
     ("erasure", &["erased"], &[1, 2, 7, 8, 10, 15]),
     ("cut erasure", &["cut", "erased"], &[1, 2, 7, 8, 10, 15]),
-    ("restart", &["restarted"], &[1, 2]),
-    ("check", &["skipped", "agrees", "differs"], &[1, 2, 7, 8]),
-    ("numbers", &["skipped", "not skipped"], &[]),
+    ("restart", &["nothing"], &[]),
     ("engine reply", &["taken"], &[19]),
     ("make table", &["made"], &[2]),
     ("CLKC", &["clear"], &[1, 2, 4, 5, 6, 17]),
@@ -31,10 +29,8 @@ const OUTCOMES: [(&str, &[&str], &[u32]); 23] = [
 ];
 
 /// The kinds and flags that a partition of a good map can have.
-const KINDS_AND_FLAGS: [&str; 24] = [
-    "0/0", "0/1", "0/2", "0/3", "0/7", "0/9", "0/11", "0/15", "1/0", "1/1", "1/9", "2/0", "0/16",
-    "0/17", "0/18", "0/19", "0/23", "0/25", "0/27", "0/31", "1/16", "1/17", "1/25", "2/16",
-];
+const KINDS_AND_FLAGS: [&str; 12] =
+    ["0/0", "0/1", "0/2", "0/3", "0/7", "0/9", "0/11", "0/15", "1/0", "1/1", "1/9", "2/0"];
 
 /// Every outcome of every call.
 pub fn outcomes() -> Vec<String> {
@@ -79,12 +75,7 @@ fn outcome(said: Said) -> String {
         Said::Reply(_) => "none",
         Said::Taken(_) => "taken",
         Said::Made(_) => "made",
-        Said::Restarted(_) => "restarted",
-        Said::Checked(Ok(Consistency::Skipped)) => "skipped",
-        Said::Checked(Ok(Consistency::Agrees)) => "agrees",
-        Said::Checked(_) => "differs",
-        Said::Numbers([_, 0]) => "not skipped",
-        Said::Numbers(_) => "skipped",
+        Said::Nothing => "nothing",
     }
     .to_string()
 }

@@ -1,7 +1,7 @@
-//! What a sequence of calls plays on: a drive, a buffer, a cache, a table and a choice of tags and
+//! What a sequence of calls plays on: a drive, a cache, a table and a choice of tags and
 //! handles, with the calls that come one after the other.
 
-use super::{buffers, commands, requests, tables};
+use super::{commands, requests, tables};
 use crate::context::REPLIES;
 use crate::random::Random;
 use crate::texts::{self, Text};
@@ -15,20 +15,19 @@ const SEED: u64 = 0x5EED_0C11_0016_0128;
 const TAGS: usize = 24;
 
 /// How often each call is made, in parts of the sum: fields, states, why, place, map; READ,
-/// WRITE, ZEROIZE; erasure, cut erasure, restart, engine reply, table, check, numbers; then the
-/// mailbox commands in the order of the document's table, CLKC, KLOD, KUNL, FERS, FSTA, and EHDL,
-/// RHPK.
-type Mood = [usize; 22];
+/// WRITE, ZEROIZE; erasure, cut erasure, restart, engine reply, table; then the mailbox commands
+/// in the order of the document's table, CLKC, KLOD, KUNL, FERS, FSTA, and EHDL, RHPK.
+type Mood = [usize; 20];
 
 const MOODS: [Mood; 4] = [
     // Many loads, which fill the cache.
-    [4, 4, 3, 2, 2, 4, 8, 6, 1, 1, 1, 2, 1, 3, 1, 1, 40, 12, 3, 5, 2, 5],
+    [4, 4, 3, 2, 2, 4, 8, 6, 1, 1, 1, 2, 1, 1, 40, 12, 3, 5, 2, 5],
     // Many burns of single words.
-    [4, 4, 3, 2, 2, 12, 40, 16, 1, 1, 3, 2, 1, 8, 2, 4, 4, 4, 1, 8, 2, 5],
+    [4, 4, 3, 2, 2, 12, 40, 16, 1, 1, 1, 2, 1, 4, 4, 4, 1, 8, 2, 5],
     // Some of each.
-    [4, 4, 3, 2, 2, 10, 20, 12, 2, 2, 3, 2, 1, 6, 2, 2, 20, 12, 2, 8, 2, 5],
+    [4, 4, 3, 2, 2, 10, 20, 12, 2, 2, 2, 2, 1, 2, 20, 12, 2, 8, 2, 5],
     // Many erasures, with loads between them.
-    [4, 4, 3, 2, 2, 4, 8, 6, 10, 30, 6, 2, 1, 6, 2, 1, 10, 4, 20, 5, 2, 5],
+    [4, 4, 3, 2, 2, 4, 8, 6, 10, 30, 6, 2, 1, 1, 10, 4, 20, 5, 2, 5],
 ];
 
 /// The places of WRITE, of the erasure, of the engine's reply, of the table and of CLKC, the first
@@ -37,7 +36,7 @@ const WRITE: usize = 6;
 const ERASURE: usize = 8;
 const REPLY: usize = 11;
 const MAKE_TABLE: usize = 12;
-const CLKC: usize = 15;
+const CLKC: usize = 13;
 
 /// A sequence of calls, made again by its number alone.
 pub struct Scene {
@@ -64,9 +63,7 @@ impl Scene {
         let mut drive = drive(&mut random);
         change(&mut random, &mut drive);
         let calls = random.between(60, 120);
-        let buffer = buffers::any(&mut random, &drive);
-        let beside = buffers::any_numbers(&mut random);
-        let lent = Lent { drive, cache, table, buffer, numbers: beside, ..Lent::default() };
+        let lent = Lent { drive, cache, table, ..Lent::default() };
         Scene { random, mood, tags, numbers, lent, calls }
     }
 
@@ -90,23 +87,16 @@ impl Scene {
                 damage(&mut self.random, &mut lent);
             }
         }
-        if self.random.one_in(if buffers::is_seen_by(&call) { 8 } else { 48 }) {
-            buffers::damage(&mut self.random, &mut lent.buffer);
-        }
         (call, lent)
     }
 
     /// Goes on from what a call left, unless the call was lent something damaged, which may have
-    /// had a good map of its own. Damaged marks, a buffer of another length, and a table that is
-    /// none, are the call's alone.
+    /// had a good map of its own. Damaged marks, and a table that is none, are the call's alone.
     pub fn go_on(&mut self, mut after: Lent) {
         let drive = &mut self.lent.drive;
         let same_lengths = after.drive.cells.len() == drive.cells.len();
         if same_lengths && after.drive.image == drive.image {
             after.drive.marks = std::mem::take(&mut drive.marks);
-            if after.buffer.len() != self.lent.buffer.len() {
-                after.buffer = std::mem::take(&mut self.lent.buffer);
-            }
             if after.table.listed().is_none() {
                 after.table = std::mem::take(&mut self.lent.table);
             }
@@ -135,7 +125,10 @@ impl Scene {
         let choice = self.choice();
         let (random, drive) = (&mut self.random, &self.lent.drive);
         match choice {
-            0 => Call::Partition(mostly_below(random, partitions(drive))),
+            0 => {
+                let there = drive.map().map_or(0, |map| map.entries().len());
+                Call::Partition(mostly_below(random, there))
+            }
             1 => Call::States,
             2 => Call::Why,
             3 => Call::Place(mostly_below(random, PLACES)),
@@ -151,8 +144,6 @@ impl Scene {
             10 => Call::Restart,
             REPLY => Call::EngineReply(reply(random)),
             MAKE_TABLE => tables::making(random, &self.numbers),
-            13 => Call::Check(mostly_below(random, partitions(drive))),
-            14 => Call::Numbers(mostly_below(random, PARTITIONS)),
             mailbox => {
                 let partition = commands::partition(random, drive);
                 let command = Mail::ALL[mailbox - CLKC];
@@ -185,11 +176,6 @@ impl Scene {
         }
         lent
     }
-}
-
-/// How many partitions there are.
-fn partitions(drive: &Drive) -> usize {
-    drive.map().map_or(0, |map| map.entries().len())
 }
 
 /// A number below the count, or one in three around it or past it.

@@ -1,5 +1,5 @@
 //! Sights: what is to be met in generated calls though no outcome names it. Those of tables stand
-//! with `handles`, those of new fuses with `charge`, those of buffers with `consistency`.
+//! with `handles`, those of new fuses with `charge`.
 
 use super::met::Seen;
 use crate::layout::Layout;
@@ -71,11 +71,11 @@ pub const ALL: &[Row<Sight>] = &[
     ("cut past the end with a key held", |s| {
         s.came == "cut erasure erased" && s.before.cache.any_held()
     }),
-    ("restart with a key held", |s| s.came == "restart restarted" && s.before.cache.any_held()),
+    ("restart with a key held", |s| s.came == "restart nothing" && s.before.cache.any_held()),
     ("cut with a reply awaited", |s| s.came == "cut erasure cut" && s.awaited()),
     ("cut past the end with a reply awaited", |s| s.came == "cut erasure erased" && s.awaited()),
     ("cut refused with a reply awaited", |s| s.came == "cut erasure refused 10" && s.awaited()),
-    ("restart with a reply awaited", |s| s.came == "restart restarted" && s.awaited()),
+    ("restart with a reply awaited", |s| s.came == "restart nothing" && s.awaited()),
     ("erasure with a reply awaited", |s| s.came == "erasure erased" && s.awaited()),
     ("READ with a reply awaited", |s| s.came == "READ word" && s.awaited()),
     ("WRITE with a reply awaited", |s| s.came == "WRITE word" && s.awaited()),

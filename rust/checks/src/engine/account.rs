@@ -36,7 +36,7 @@ impl Account {
                 self.handles = both.map(|(handle, algorithm)| [*handle, *algorithm]).collect();
                 self.numbers.extend(handles);
             }
-            (_, Said::Restarted(Ok(())) | Said::Erasure(Erasure::Cut { .. })) => {
+            (_, Said::Nothing | Said::Erasure(Erasure::Cut { .. })) => {
                 (self.open, self.named) = (None, [None; PLACES]);
             }
             (Call::EngineReply(reply), Said::Taken(Ok(()))) => {

@@ -2,14 +2,22 @@
 
 use super::account::{Account, Given};
 use crate::small::response;
-use crate::steps;
 use crate::tally::{self, Row};
 use model::Place::{Held, Waiting};
-use model::{Awaited, Call, Drive, EngineReply, Order, Place, Reply, Said};
+use model::{Awaited, Call, Drive, EngineReply, Lent, Order, Place, Reply, Said};
 use sciambrunola::{why, Reason};
 
-/// A call, with the orders and handles up to it.
-pub type Step<'a> = steps::Step<'a, Account>;
+/// A call as it was made.
+pub struct Step<'a> {
+    pub call: &'a Call,
+    pub before: &'a Lent,
+    pub said: Said,
+    pub after: &'a Lent,
+    /// The account before the call.
+    pub was: &'a Account,
+    /// The account after it.
+    pub now: &'a Account,
+}
 
 type Clause = fn(&Step) -> bool;
 

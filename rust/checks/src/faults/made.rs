@@ -1,7 +1,7 @@
-//! A call as the model made it, and what faults of document 02's P5 to P9 ask of it or change.
+//! A call as the model made it, and what faults of document 02's P5 to P8 ask of it or change.
 
-use super::{buffers, charge, engine, guides, handles};
-use model::{Answer, Call, Erasure, Lent, Reply, Said};
+use super::{charge, engine, guides, handles};
+use model::{Call, Erasure, Lent, Reply, Said};
 
 /// A call as the model made it; a fault changes what it said or left.
 pub(super) struct Made<'a> {
@@ -39,22 +39,11 @@ pub fn of_charge() -> impl Iterator<Item = &'static str> {
     of_sums().chain(charge::OF_ANSWERS.into_iter().map(|(name, _)| name))
 }
 
-/// The names of P9's faults but for those of refusals.
-pub fn of_buffers() -> impl Iterator<Item = &'static str> {
-    buffers::ALL.into_iter().map(|(name, _)| name)
-}
-
-/// The names of P9's faults of refusals.
-pub fn of_buffer_refusals() -> impl Iterator<Item = &'static str> {
-    buffers::OF_REFUSALS.into_iter().map(|(name, _)| name)
-}
-
 /// What is said with the fault of this name, if there is one and it shows.
 pub(super) fn faulty(name: &str, mut made: Made) -> Option<Said> {
     let of_charge = charge::OF_SUMS.into_iter().chain(charge::OF_ANSWERS);
     let others = engine::ALL.into_iter().chain(handles::ALL).chain(guides::ALL);
-    let mut all = others.chain(of_charge).chain(buffers::ALL).chain(buffers::OF_REFUSALS);
-    let (_, shows) = all.find(|(fault, _)| *fault == name)?;
+    let (_, shows) = others.chain(of_charge).find(|(fault, _)| *fault == name)?;
     shows(&mut made).then_some(made.said)
 }
 
@@ -87,9 +76,6 @@ impl Made<'_> {
         self.after.clone_from(self.before);
         self.said = match self.call {
             Call::Erase(_) => Said::Erasure(Erasure::Refused { number, burns: 0 }),
-            Call::Direct(_) => Said::Answer(Answer::Refused(number)),
-            Call::Restart => Said::Restarted(Err(number)),
-            Call::Check(_) => Said::Checked(Err(number)),
             _ => Said::Reply(Reply::Refused(number)),
         };
         true

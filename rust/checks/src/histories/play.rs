@@ -115,7 +115,6 @@ const SIGHTS: &[Row<Sight>] = &[
     ("ended with no new fuse", |s| s.completes && s.reported() == 0),
     ("refused after new fuses", |s| s.past.reported > 0 && s.said.refusal().is_some()),
     ("restart after new fuses", |s| s.past.reported > 0 && s.is_restart()),
-    ("restart refused after a cut", |s| s.past.cut && s.is_restart() && s.said.refusal().is_some()),
 ];
 
 /// Everything that a run has to meet: each clause asked for something, each refusal, each sight.
@@ -272,8 +271,8 @@ fn cut(call: &Call, said: Said, partition: Option<&Layout>) -> Option<Cut> {
 
 /// What an attempt is lent: what the one before left, and buffers of its own.
 fn lent(left: Lent, attempt: &Attempt) -> Lent {
-    let Attempt { buffers: (block, response), buffer, .. } = attempt.clone();
-    Lent { block, response, buffer, ..left }
+    let (block, response) = attempt.buffers.clone();
+    Lent { block, response, ..left }
 }
 
 /// The attempt made alone. Of the buffers only the lengths are the same, so

@@ -3,16 +3,15 @@
 //! for the states) and the cache is as full as what the call comes to allows, so that there is the
 //! most to go through.
 
-mod mail;
-
+use crate::calls::requests::fers;
 use crate::largest::{self, LAST, SHARE, TAIL};
-use crate::maps::MOST_CELLS;
-use crate::small::{self, MAP_TEXT, SLOT};
+use crate::small::{self, INDICATOR_STUCK, MAP_TEXT, SLOT};
 use crate::{lent, texts};
 use model::Command::{Read, Write, Zeroize};
 use model::EngineReply::{self, Done, TimedOut};
-use model::{Call, Cut, Erase, KeyBlock, Lent, Model, Table};
-use model::{BUFFERED, HARDWARE, SOFTWARE, ZEROIZABLE};
+use model::Mail::{Clkc, Ehdl, Fsta, Klod, Kunl, Rhpk};
+use model::{Call, Cut, Erase, KeyBlock, Lent, Mail, Model, Request, Table, Values};
+use model::{HARDWARE, SOFTWARE};
 use sciambrunola::LONGEST_IMAGE;
 use std::ops::RangeInclusive;
 
@@ -41,8 +40,9 @@ const INDICATOR_UNSET: &[(usize, u32)] = &[(2, u32::MAX), (1, u32::MAX)];
 
 /// All of them, in the order of the table's rows.
 pub fn all() -> Vec<Case> {
-    let others = [reading(), direct(), erasures(), restarts(), checks(), replies(), tables()];
-    others.into_iter().flatten().chain(mail::all()).collect()
+    let mailbox = [clkc(), klod(), kunl(), by_fers(), fsta(), ehdl(), rhpk(), unknown()];
+    let others = [reading(), direct(), erasures(), restarts(), replies(), tables()];
+    others.into_iter().chain(mailbox).flatten().collect()
 }
 
 fn case(comes_to: &'static str, lent: Lent, call: Call) -> Case {
@@ -96,15 +96,12 @@ fn reading() -> Vec<Case> {
     ]
 }
 
-/// On the largest map a word that is shown, and for WRITE and ZEROIZE one of the last slot too;
-/// READ also of a buffered partition.
+/// On the largest map a word that is shown, and for WRITE and ZEROIZE one of the last slot too.
 fn direct() -> Vec<Case> {
     let last = LAST * SHARE as u32;
-    let whole = lent::of(largest::one_partition(HARDWARE, BUFFERED));
     let calls = [
         ("READ word", small([]), Read { cell: SOFTWARE_WORD }),
         ("READ word", beside_slots(SOFTWARE), Read { cell: 0 }),
-        ("READ word", whole, Read { cell: MOST_CELLS as u32 - 2 }),
         ("WRITE word", small([]), Write { cell: SOFTWARE_WORD, value: 5 }),
         ("WRITE word", beside_slots(SOFTWARE), Write { cell: 0, value: 5 }),
         ("WRITE done", large([]), Write { cell: last, value: u64::MAX }),
@@ -132,34 +129,12 @@ fn erasures() -> Vec<Case> {
 }
 
 fn restarts() -> Vec<Case> {
-    [small([1]), large(ALL)].map(|lent| case("restart restarted", lent, Call::Restart)).into()
-}
-
-/// Of the largest partition, all 2,048 cells: the same, different in the last pair, and skipped;
-/// and of the last of 16.
-fn checks() -> Vec<Case> {
-    let flags = ZEROIZABLE | BUFFERED;
-    let whole = lent::of(largest::one_partition(SOFTWARE, flags));
-    let [mut differing, mut skipped] = [whole.clone(), whole.clone()];
-    differing.buffer[MOST_CELLS - 1] = 1;
-    skipped.numbers[0].skipped = true;
-    let mut last = lent::of(largest::last_slot_active());
-    let mut image = largest::slots();
-    image.entries[LAST as usize].flags |= BUFFERED;
-    last.drive.image = image.bytes();
-    vec![
-        case("check agrees", whole, Call::Check(0)),
-        case("check differs", differing, Call::Check(0)),
-        case("check skipped", skipped, Call::Check(0)),
-        case("check agrees", last, Call::Check(LAST)),
-        case("check refused 8", large(ALL), Call::Check(LAST)),
-        case("numbers not skipped", large(ALL), Call::Numbers(LAST)),
-    ]
+    [small([1]), large(ALL)].map(|lent| case("restart nothing", lent, Call::Restart)).into()
 }
 
 /// The same where every place that is held waits under a clear.
 fn waiting(mut lent: Lent) -> Lent {
-    Model.answer(&mut lent, &Call::Mailbox(mail::clear()));
+    Model.answer(&mut lent, &Call::Mailbox(plain(Clkc, 0)));
     lent
 }
 
@@ -192,4 +167,112 @@ fn tables() -> Vec<Case> {
         make("make table refused 2", none(), [1, 2, 2]),
         make("make table refused 2", large(ALL), [1, 2, 3]),
     ]
+}
+
+/// A mailbox call.
+fn mail(comes_to: &'static str, lent: Lent, request: Request) -> Case {
+    case(comes_to, lent, Call::Mailbox(request))
+}
+
+/// The request of a command that has a tag.
+fn tagged(command: Mail, tag: u64) -> Request {
+    Request::of(command, &Values { tag, mek: [0x6B; 64], timeout: 1000, ..Values::default() })
+}
+
+/// The request of a command that has neither tag nor partition, with this reserved field.
+fn plain(command: Mail, reserved: u32) -> Request {
+    Request::of(command, &Values { reserved, timeout: 1000, ..Values::default() })
+}
+
+fn clkc() -> Vec<Case> {
+    vec![
+        mail("CLKC clear", small([1]), plain(Clkc, 0)),
+        mail("CLKC clear", large(ALL), plain(Clkc, 0)),
+        mail("CLKC refused 6", small([1]), plain(Clkc, 1)),
+        mail("CLKC refused 6", large(ALL), plain(Clkc, 1)),
+        mail("CLKC clear", unsure(large(ALL)), plain(Clkc, 0)),
+        mail("CLKC refused 17", waiting(large(ALL)), plain(Clkc, 0)),
+    ]
+}
+
+fn klod() -> Vec<Case> {
+    let torn = lent::holding(lent::of(largest::last_slot_torn()), ALL);
+    vec![
+        mail("KLOD load", small([2]), tagged(Klod, 1)),
+        mail("KLOD load", large(ALL_BUT_ONE), tagged(Klod, OTHER_TAG)),
+        mail("KLOD refused 12", small([1]), tagged(Klod, 1)),
+        mail("KLOD refused 11", torn, tagged(Klod, OTHER_TAG)),
+        mail("KLOD refused 12", large(ALL), tagged(Klod, LAST_TAG)),
+        mail("KLOD refused 13", large(ALL), tagged(Klod, OTHER_TAG)),
+        mail("KLOD refused 17", waiting(large(ALL_BUT_ONE)), tagged(Klod, OTHER_TAG)),
+        mail("KLOD refused 18", unsure(large(ALL_BUT_ONE)), tagged(Klod, OTHER_TAG)),
+    ]
+}
+
+fn kunl() -> Vec<Case> {
+    vec![
+        mail("KUNL unload", small([1]), tagged(Kunl, 1)),
+        mail("KUNL unload", large(ALL), tagged(Kunl, LAST_TAG)),
+        mail("KUNL refused 14", small([2]), tagged(Kunl, 1)),
+        mail("KUNL refused 14", large(ALL), tagged(Kunl, OTHER_TAG)),
+        mail("KUNL refused 17", waiting(large(ALL)), tagged(Kunl, LAST_TAG)),
+        mail("KUNL refused 18", unsure(large(ALL)), tagged(Kunl, LAST_TAG)),
+    ]
+}
+
+fn by_fers() -> Vec<Case> {
+    let mut cases = vec![mail("FERS none", small([]), fers(SLOT))];
+    for (lent, partition) in to_erase(DIGEST_SHORT) {
+        cases.push(mail("FERS none", lent, fers(partition)));
+    }
+    cases.push(mail("FERS refused 10", small([1]), fers(SLOT)));
+    cases.push(mail("FERS refused 10", large(ALL), fers(LAST)));
+    cases.push(mail("FERS refused 15", small::stuck(INDICATOR_STUCK), fers(SLOT)));
+    for (lent, partition) in to_erase(INDICATOR_UNSET) {
+        cases.push(mail("FERS refused 15", lent, fers(partition)));
+    }
+    cases.push(mail("FERS refused 17", waiting(beside_slots(HARDWARE)), fers(0)));
+    cases
+}
+
+fn fsta() -> Vec<Case> {
+    vec![
+        mail("FSTA none", small([1]), plain(Fsta, 0)),
+        mail("FSTA none", large(ALL), plain(Fsta, 0)),
+        mail("FSTA none", waiting(large(ALL)), plain(Fsta, 0)),
+        mail("FSTA refused 6", small([1]), plain(Fsta, 1)),
+        mail("FSTA refused 6", large(ALL), plain(Fsta, 1)),
+    ]
+}
+
+fn ehdl() -> Vec<Case> {
+    vec![
+        mail("EHDL none", small([1]), plain(Ehdl, 0)),
+        mail("EHDL none", large(ALL), plain(Ehdl, 0)),
+        mail("EHDL refused 6", small([1]), plain(Ehdl, 1)),
+        mail("EHDL refused 6", large(ALL), plain(Ehdl, 1)),
+        mail("EHDL refused 17", waiting(large(ALL)), plain(Ehdl, 0)),
+    ]
+}
+
+/// Of the handle in the last place, and of one that is in none.
+fn rhpk() -> Vec<Case> {
+    let rotate = |handle| Request::of(Rhpk, &Values { handle, ..Values::default() });
+    let last = lent::table().handles[2].number;
+    let mut used_up = large(ALL);
+    used_up.table.greatest = u32::MAX.into();
+    vec![
+        mail("RHPK none", small([1]), rotate(last)),
+        mail("RHPK none", large(ALL), rotate(last)),
+        mail("RHPK refused 20", small([1]), rotate(0)),
+        mail("RHPK refused 20", large(ALL), rotate(0)),
+        mail("RHPK refused 21", used_up, rotate(last)),
+        mail("RHPK refused 17", waiting(large(ALL)), rotate(last)),
+    ]
+}
+
+/// A code of no command.
+fn unknown() -> Vec<Case> {
+    let request = Request { code: 0, ..plain(Fsta, 0) };
+    [small([1]), large(ALL)].map(|lent| mail("other refused 3", lent, request.clone())).into()
 }

@@ -1,5 +1,5 @@
-//! Document 01, "The map of the fuses": the fields of the header and of an entry, with P7 and
-//! P9 of document 02.
+//! Document 01, "The map of the fuses": the fields of the header and of an entry, with P7 of
+//! document 02.
 
 use std::ops::Range;
 
@@ -18,8 +18,6 @@ pub const SECRET: u8 = 2;
 pub const SLOT: u8 = 4;
 /// P7: flag 8, a board on the older guide.
 pub const OLDER_GUIDE: u8 = 8;
-/// P9: flag 16, a buffered partition.
-pub const BUFFERED: u8 = 16;
 
 /// "The map of the fuses": "Header, four u16", little-endian.
 #[derive(Clone, Copy, Debug, PartialEq, Eq)]
@@ -57,7 +55,7 @@ pub struct Entry {
     pub n: u16,
     /// Kind: 0 hardware, 1 software, 2 life cycle.
     pub kind: u8,
-    /// Flags: 1 zeroizable, 2 secret, 4 HEK slot, 8 older guide, 16 buffered.
+    /// Flags: 1 zeroizable, 2 secret, 4 HEK slot, 8 older guide.
     pub flags: u8,
     /// The "two zero bytes", as they stand in the image.
     pub zeros: [u8; 2],
@@ -102,11 +100,6 @@ impl Entry {
     /// P7: "Flag 8 on a partition selects its ZEROIZE".
     pub fn older_guide(&self) -> bool {
         self.flags & OLDER_GUIDE != 0
-    }
-
-    /// P9: "Flag 16 marks a buffered partition."
-    pub fn buffered(&self) -> bool {
-        self.flags & BUFFERED != 0
     }
 
     /// "The map of the fuses": how many cells, from the partition's first one

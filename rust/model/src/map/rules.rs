@@ -1,8 +1,7 @@
-//! Document 01, "The map of the fuses": every rule an image must keep, with those of P7 and P9 of
-//! document 02.
+//! Document 01, "The map of the fuses": every rule an image must keep, with that of P7 of document
+//! 02.
 
-use super::fields::{Entry, Header, BUFFERED, OLDER_GUIDE, SECRET, SLOT, ZEROIZABLE};
-use super::fields::{HARDWARE, LIFE_CYCLE};
+use super::fields::{Entry, Header, HARDWARE, LIFE_CYCLE, OLDER_GUIDE, SECRET, SLOT, ZEROIZABLE};
 
 /// One list for the rules: the document's words, the rule's name, and the test
 /// whether it holds of an image with this header and these entries.
@@ -26,9 +25,6 @@ macro_rules! rules {
     };
 }
 
-/// Every flag.
-const FLAGS: u8 = ZEROIZABLE | SECRET | SLOT | OLDER_GUIDE | BUFFERED;
-
 rules! {
     (image, header, entries)
     /// "partition count P (1..16)"
@@ -45,9 +41,8 @@ rules! {
     Length => image.len() == usize::from(header.entries_at) + 8 * usize::from(header.partitions),
     /// "u8 kind (0 hardware, 1 software, 2 life cycle)"
     Kind => every(entries, |e| e.kind <= LIFE_CYCLE),
-    /// "u8 flags (...; higher bits zero)", flag 8 being a flag since P7; P9: "1 no longer for flag
-    /// 16"
-    HigherFlags => every(entries, |e| e.flags & !FLAGS == 0),
+    /// "u8 flags (...; higher bits zero)", flag 8 being a flag since P7
+    HigherFlags => every(entries, |e| e.flags & !(ZEROIZABLE | SECRET | SLOT | OLDER_GUIDE) == 0),
     /// "two zero bytes"
     EntryZeros => every(entries, |e| e.zeros == [0, 0]),
     /// "First and n are even", the first half of it

@@ -1,7 +1,7 @@
 //! "Erasing a partition": the order of burns, and where a cut leaves it.
 
 use super::*;
-use model::buffer::restart;
+use model::cache::restart;
 
 /// The numbers of the partitions that are erased here, six cells each.
 const SLOT: u32 = 0;
@@ -9,13 +9,12 @@ const PLAIN: u32 = 1;
 const SOFT: u32 = 2;
 
 /// The erasure answers so and leaves its partition these cells. Nothing else
-/// changes, except that after a cut "the key cache is empty", and by P9 that the check
-/// of a partition is skipped when its erasure has ended. What is uncut is asked for by FERS too.
+/// changes, except that after a cut "the key cache is empty". What is uncut is
+/// asked for by FERS too.
 pub fn check(before: &Lent, call: Erase, answer: Erasure, left: [u32; 6]) {
     let mut after = before.clone();
     let first = 6 * call.partition as usize;
     after.drive.cells[first..first + 6].copy_from_slice(&left);
-    after.numbers[first / 6].skipped |= matches!(answer, Erasure::Erased { .. });
     if call.cut.is_none() {
         check_fers(before, call.partition, answer, &after);
     }
@@ -145,10 +144,8 @@ fn an_indicator_with_one_set_fuse_lets_the_erasure_go_on() {
     }
 }
 
-/// "A restart empties the cache and changes nothing else" but, by P9, the buffer and its numbers.
+/// "A restart empties the cache and changes nothing else"
 #[test]
 fn a_restart_empties_the_cache_and_changes_nothing_else() {
-    let (said, after) = restart(&held(small(&[], &[]), 5));
-    let Lent { buffer, numbers, .. } = after.clone();
-    assert_eq!((said, after), (Ok(()), Lent { buffer, numbers, ..small(&[], &[]) }));
+    assert_eq!(restart(&held(small(&[], &[]), 5)), small(&[], &[]));
 }

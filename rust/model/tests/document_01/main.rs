@@ -1,6 +1,6 @@
-//! The model held to the sentences and numbers of document 01, a file for each section, and to
-//! those of document 02's P4, P5, P6, P8 and P9 where they change them. Every expected value is a
-//! document's, or follows from its rules.
+//! The model held to the sentences and numbers of document 01, a file for each
+//! section, and to those of document 02's P4, P5, P6 and P8 where they change them. Every expected
+//! value is a document's, or follows from its rules.
 
 mod direct_commands;
 mod erasure;
@@ -28,14 +28,13 @@ const ALL: u32 = u32::MAX;
 /// Cells by their numbers, each with its fuses or its mark.
 type Cells<'a> = &'a [(usize, u32)];
 
-/// "The small drive", but for these cells and marks. The buffers hold what no answer has; the
-/// cache is empty, and the table has one handle.
+/// "The small drive", but for these cells and marks. Block and response buffer
+/// hold bytes that no answer has; the cache is empty, and the table has one handle.
 fn small(cells: Cells, marks: Cells) -> Lent {
     let (block, response) = (vec![0xB1; 128], vec![0xA5; 44]);
     let mut table = Table { count: 1, greatest: 5, ..Table::default() };
     table.handles[0] = Handle { number: 5, algorithm: 1 };
-    let (drive, buffer) = (Drive::small(), vec![0xB0FF_E12D; 12]);
-    with(&Lent { drive, table, buffer, block, response, ..Lent::default() }, cells, marks)
+    with(&Lent { drive: Drive::small(), table, block, response, ..Lent::default() }, cells, marks)
 }
 
 /// A drive with a partition of each sort: a slot, a zeroizable hardware and a
@@ -51,7 +50,7 @@ fn every_sort(cells: Cells, marks: Cells) -> Lent {
     ];
     let image = Image { cells: 28, bound: 60, entries_at: 8, entries }.bytes();
     let drive = Drive { image, cells: vec![0; 28], marks: vec![0; 28] };
-    with(&Lent { drive, buffer: vec![0xB0FF_E12D; 28], ..small(&[], &[]) }, cells, marks)
+    with(&Lent { drive, ..small(&[], &[]) }, cells, marks)
 }
 
 /// The same drive with these cells and marks.

@@ -1,7 +1,7 @@
 //! P5, "The engine that does not answer", on the small drive. Case 10 and the order of all refusals
 //! stand with document 01.
 
-use model::buffer::restart;
+use model::cache::restart;
 use model::direct::direct;
 use model::erasure::erase;
 use model::mailbox::mailbox;
@@ -201,7 +201,7 @@ fn p5_17_is_for_the_mailbox_alone() {
 fn p5_a_cut_or_restart_empties_all_places_and_drops_an_awaited_reply() {
     let mut lent = small(&[Waiting(8), Held(7), Unsure(9)], Some(Clear));
     lent.drive.image[21] = 1; // Partition 1 is zeroizable.
-    assert_eq!(restart(&lent).1.cache, Cache::default());
+    assert_eq!(restart(&lent), Lent { cache: Cache::default(), ..lent.clone() });
     let cut = |partition, k| erase(&lent, Erase { partition, cut: Some(Cut { k, mask: 1 }) });
     for k in [0, 3] {
         assert_eq!(cut(1, k).1.cache, Cache::default(), "{k}");

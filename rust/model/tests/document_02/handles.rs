@@ -2,7 +2,7 @@
 //! 17 with P5.
 
 use super::{refused, small, table};
-use model::buffer::restart;
+use model::cache::restart;
 use model::erasure::erase;
 use model::mailbox::mailbox;
 use model::{handles, Awaited, Call, Cut, Erase, Lent, Mail, Order, Reply, Request, Table, Values};
@@ -109,7 +109,7 @@ fn p6_20_no_such_handle_21_numbers_used_up() {
 #[test]
 fn p6_a_restart_and_a_cut_leave_the_table() {
     let lent = small(table(&[[7, 1], [8, 2]], 9));
-    assert_eq!(restart(&lent).1.table, lent.table);
+    assert_eq!(restart(&lent), lent);
     for cut in [None, Some(Cut { k: 0, mask: 1 }), Some(Cut { k: 3, mask: 1 })] {
         assert_eq!(erase(&lent, Erase { partition: 0, cut }).1.table, lent.table, "{cut:?}");
     }

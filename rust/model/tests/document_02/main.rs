@@ -2,7 +2,6 @@
 //! sections of document 01 that it changes, and with P1. Every expected value is a document's, or
 //! follows from its rules.
 
-mod buffers;
 mod charge;
 mod engine;
 mod guides;
@@ -12,12 +11,11 @@ mod why;
 
 use model::{refusal, Call, Drive, Handle, KeyBlock, Lent, Model, Table};
 
-/// The small drive with this table. The buffers hold what no answer has, and have the least
-/// lengths.
+/// The small drive with this table. Block and response buffer hold bytes that no answer has, and
+/// have the least lengths.
 fn small(table: Table) -> Lent {
     let (block, response) = (vec![0xB1; 128], vec![0xA5; 40]);
-    let buffer = vec![0xB0FF_E12D; 12];
-    Lent { drive: Drive::small(), table, buffer, block, response, ..Lent::default() }
+    Lent { drive: Drive::small(), table, block, response, ..Lent::default() }
 }
 
 /// A table of these handles with their algorithms, and this as the greatest number ever given.

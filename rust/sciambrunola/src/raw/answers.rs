@@ -18,10 +18,6 @@ pub(crate) const WITHHELD: u32 = 2;
 pub(crate) const ENDED: u32 = 0;
 pub(crate) const CUT: u32 = 1;
 
-pub(crate) const BUFFER_SKIPPED: u32 = 0;
-pub(crate) const BUFFER_AGREES: u32 = 1;
-pub(crate) const BUFFER_DIFFERS: u32 = 2;
-
 pub(crate) const PLACE_EMPTY: u32 = 0;
 pub(crate) const PLACE_HELD: u32 = 1;
 pub(crate) const PLACE_WAITING: u32 = 2;
@@ -76,21 +72,6 @@ pub(crate) struct Reason {
 pub(crate) struct Place {
     pub(crate) kind: u32,
     pub(crate) tag: u64,
-}
-
-/// `sci_numbers`
-#[repr(C)]
-pub(crate) struct Numbers {
-    pub(crate) ones: u64,
-    pub(crate) skipped: u32,
-}
-
-/// `sci_consistency`
-#[repr(C)]
-pub(crate) struct Consistency {
-    pub(crate) kind: u32,
-    pub(crate) refusal: u32,
-    pub(crate) cell: u32,
 }
 
 /// `sci_answer`

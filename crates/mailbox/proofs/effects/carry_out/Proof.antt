@@ -80,7 +80,7 @@ returns-4 : tie.Need-returns-4
 returns-4 c =
     let erased = c.before.before.before in
     let named = erased.before.before in
-    rw (named.before.enum-told4.given.1, ← named.partition-of.ensures) (fers_does _ erased.erase-judged.ensures c.fers-effect.ensures)
+    rw (named.before.enum-told4.given.1, ← named.partition-of.ensures) (fers_does erased.erase-judged.ensures c.fers-effect.ensures)
 
 same-length-2 : tie.Need-same-length-2
 same-length-2 c = search rules

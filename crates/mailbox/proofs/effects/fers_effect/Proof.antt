@@ -1,4 +1,5 @@
 -- `mailbox::effects::fers_effect` meets its contract: by the answer. Assumes nothing.
+use mathlib.Core.Path.{◌∙◌}
 use borrow.Author.Rules.{rules}
 use Rattle.mailbox.proofs.effects.fers_effect.Statement.{statement}
 use Rattle.mailbox.proofs.effects.fers_effect.Tie as tie
@@ -8,6 +9,9 @@ enum-known-answer c = search rules
 
 three-numbers-requires : tie.Need-three-numbers-requires
 three-numbers-requires c κs = search rules
+
+effect-with-requires : tie.Need-effect-with-requires
+effect-with-requires c κs = search rules
 
 enum-known-answer-2 : tie.Need-enum-known-answer-2
 enum-known-answer-2 c = search rules
@@ -22,7 +26,7 @@ refuse-requires-2 : tie.Need-refuse-requires-2
 refuse-requires-2 c κs = search rules
 
 returns : tie.Need-returns
-returns c = rw (c.before.before.answer.given.1, c.three-numbers.ensures)
+returns c = rw c.before.before.before.answer.given.1 (c.effect-with.ensures ∙ rw c.before.three-numbers.ensures)
 
 returns-2 : tie.Need-returns-2
 returns-2 c = rw c.before.before.answer2.given.1 c.refuse.ensures
@@ -36,6 +40,7 @@ fers-effect-spec =
     (tie.spec
     enum-known-answer
     three-numbers-requires
+    effect-with-requires
     enum-known-answer-2
     refuse-requires
     enum_told

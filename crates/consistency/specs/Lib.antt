@@ -1,4 +1,0 @@
-pub mod Consistency
-pub mod Laws
-pub mod Exactly
-pub mod Vectors

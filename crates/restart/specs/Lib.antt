@@ -1,3 +1,0 @@
-pub mod Restart
-pub mod Laws
-pub mod Vectors
