@@ -6,20 +6,22 @@
 // the set fuses what it reports in `specs/Charge`, when a run stops after its first burn and what that
 // leaves in `specs/Stops`, what any number of runs leaves in `specs/Safe`, how a run ends and after how
 // many burns in `specs/Ends`. It rests on `fuse`, `partition` and `laws`.
+#![tactic(auto)]
+
 ghost use Rattle.std.specs.Prelude.{◌≡◌, ◌+◌, ◌-◌, ◌%◌, ◌<◌, ◌≤◌, min, length, get_or};
 ghost use Rattle.fuse.specs.Fuse.{cells_in};
 ghost use Rattle.burns.specs.Run.{pair_from, order, goes_on, place_of, value_of, end_of, as_report, ran_as, run};
 
 // A word of a partition: its first cell, counted from where the partition starts, and whether it is a
 // pair or one cell.
-#[derive(Drop)]
+#[derive(Clone, Copy)]
 pub struct Word {
     pub at: usize,
     pub wide: bool,
 }
 
 // How a run ended: its order was gone through, the indicator stopped it, or the power failed.
-#[derive(Drop)]
+#[derive(Clone, Copy)]
 pub enum End {
     Whole,
     Stopped,
@@ -27,7 +29,7 @@ pub enum End {
 }
 
 // How a run ended, how many burns it carried out, and how many fuses they have newly set.
-#[derive(Drop)]
+#[derive(Clone, Copy)]
 pub struct Report {
     pub end: End,
     pub burns: usize,

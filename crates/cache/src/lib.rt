@@ -4,6 +4,8 @@
 // words: a kind that is never written counts as unsure, and such an awaited number as an awaited reply.
 // The definitions are in `specs/Cache`, the laws for callers in `specs/Laws`. It rests on `context` and
 // `laws`.
+#![tactic(auto)]
+
 ghost use Rattle.std.specs.Prelude.{◌≡◌, ◌++◌, ◌<◌, ◌≤◌, length, drop, replicate};
 ghost use Rattle.cache.specs.Cache.{cache_of, is_at, kind_is, lowest_place, has_place, busy, place_by, place_at, placed, kept_tag, turned_at, turned_below, waiting_at, clearing, settled, emptied};
 
@@ -35,7 +37,7 @@ const PLACES_WORDS: usize = context::AWAITED;
 
 // The places that a search is after: the empty ones, those that are not, those that wait, those that
 // are unsure, those that are not empty and have a tag.
-#[derive(Drop)]
+#[derive(Clone, Copy)]
 pub enum Sought {
     Empty,
     Occupied,
@@ -45,7 +47,7 @@ pub enum Sought {
 }
 
 // A place as its reader sees it, with its tag.
-#[derive(Drop)]
+#[derive(Clone, Copy)]
 pub enum Place {
     Empty,
     Waiting(u64),

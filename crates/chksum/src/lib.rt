@@ -1,6 +1,8 @@
 // The mailbox's sums: the chksum that a request must have, with the bytes of its code, and the chksum
 // of a response, without them, written in front of it. The definitions are in `specs/Chksum`, the
 // laws for callers in `specs/Laws`. It rests on `endian` and `laws`.
+#![tactic(auto)]
+
 ghost use Rattle.std.specs.Prelude.{◌≡◌, ◌+◌, ◌%◌, ◌^◌, ◌≤◌, length, drop};
 ghost use Rattle.endian.specs.Endian.{bytes4};
 ghost use Rattle.chksum.specs.Chksum.{sum_bytes, minus, request_sum, closed};

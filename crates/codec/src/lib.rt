@@ -2,6 +2,8 @@
 // list (refusals 3 to 6), its fields read, and a response written by its list. The field lists are in
 // `specs/Fields`, the refusals in `specs/Request`, the laws for callers in `specs/Laws`. It rests on
 // `chksum`, `endian` and `laws`.
+#![tactic(auto)]
+
 ghost use Rattle.std.specs.Prelude.{◌≡◌, ◌+◌, ◌*◌, ◌≤◌, ◌<◌, length, take, get_or};
 ghost use Rattle.laws.specs.Put.{Put};
 ghost use Rattle.laws.specs.Refusals.{number_of};
@@ -10,7 +12,7 @@ ghost use Rattle.codec.specs.Fields.{number_at, mek_at, TimeoutIn, TagIn, writte
 ghost use Rattle.codec.specs.Request.{request_tests};
 
 // The commands that the mailbox knows, and any other code.
-#[derive(Drop)]
+#[derive(Clone, Copy)]
 pub enum Command {
     Clkc,
     Klod,
@@ -183,7 +185,7 @@ pub const LEAST_ROOM: usize = 40;
 // The numbers of a response, in the order of its fields after reserved; those past its list are not
 // written. The second is declared first: otherwise both lie as in an erasure's answer, and the compiler
 // reads the two stores that were just made by one load, for which the processor waits (DECISIONS 103).
-#[derive(Drop)]
+#[derive(Clone, Copy)]
 pub struct Numbers {
     pub second: u32,
     pub first: u32,

@@ -3,6 +3,7 @@
 // part's own crate reads and writes it (`cache`: the places and the awaited reply; `handles`: the table).
 // The definitions are in `specs/Context`, the one law of stores in `specs/Laws`; `specs/State` has what
 // calls change and what a call answers and leaves. It rests on nothing.
+#![tactic(auto)]
 
 // The words of the context, and where each part begins. A new part goes behind the last, and the
 // length of the whole grows by its own.

@@ -5,6 +5,8 @@
 // cannot be written are told on standard error, since a program has no exit status to give: without
 // that line they would pass for an empty input and for a silent success. It rests on `report`, and on
 // `io` and `libc` of the kit.
+#![tactic(auto)]
+
 ghost use Rattle.std.specs.Prelude.{◌≡◌};
 ghost use Rattle.desk.specs.Intake.{intake_of, Within, file_of};
 
@@ -12,7 +14,7 @@ use libc::{STDERR_FILENO, STDIN_FILENO, STDOUT_FILENO};
 use report::{Failure, Program, Stream};
 
 // What came of reading: so many bytes, or that it failed.
-#[derive(Drop)]
+#[derive(Clone, Copy)]
 enum Intake {
     Bytes(usize),
     Unread,

@@ -6,6 +6,8 @@
 // looks at both only after the last call that is not inlined, and on the way from C no value lies in
 // a command. The definitions are in `specs/Direct`, the laws in `specs/Laws`. It rests on `drive`,
 // `word`, `context`, `fuse` and what lies below them.
+#![tactic(auto)]
+
 ghost use Rattle.std.specs.Prelude.{◌≡◌, ℕ, ◌+◌, ◌≤◌, List, length};
 ghost use Rattle.fuse.specs.Fuse.{cells_in};
 ghost use Rattle.word.specs.Word.{word_at};
@@ -18,7 +20,7 @@ use map::Entry;
 use word::{Lookup, Role};
 
 // A command and the word that it names, by its first cell in the whole array.
-#[derive(Drop)]
+#[derive(Clone, Copy)]
 pub enum Command {
     Read { cell: u32 },
     Write { cell: u32, value: u64 },
@@ -27,7 +29,7 @@ pub enum Command {
 
 // What a command answers. A word that was burned comes with the number of fuses newly set, but for a
 // secret partition.
-#[derive(Drop)]
+#[derive(Clone, Copy)]
 pub enum Answer {
     Word(u64),
     Burned { word: u64, new: u32 },
@@ -37,7 +39,7 @@ pub enum Answer {
 }
 
 // What a command finds: the word that its cell starts, or the refusal's number.
-#[derive(Drop)]
+#[derive(Clone, Copy)]
 enum Found {
     Word {
         partition: u32,

@@ -4,6 +4,8 @@
 // asks for a whole drive is for callers that it has accepted. The definitions are in `specs/Drive`,
 // the laws for callers in `specs/Laws` and, of the active slot, in `specs/Active`. It rests on `map`,
 // `partition` and `cache`, and below them on `context`, `endian` and `laws`.
+#![tactic(auto)]
+
 ghost use Rattle.std.specs.Prelude.{◌≡◌, ◌<◌};
 ghost use Rattle.map.specs.Map.{header_of};
 ghost use Rattle.drive.specs.Drive.{Whole, check_of, cells_of, terms_of, survey_at, marked_at, slot_at, present, slot_number, available, active_slot, slot_in_use};
@@ -14,7 +16,7 @@ use map::Header;
 use partition::{State, Survey};
 
 // Refusal 1 or 2, or the header of a good map whose arrays have its length.
-#[derive(Drop)]
+#[derive(Clone, Copy)]
 pub enum Check {
     Ready(Header),
     Refused(u32),
@@ -22,7 +24,7 @@ pub enum Check {
 
 // The active slot's partition by the slot's state, or that there is none. The HEK is available from
 // a programmed slot alone.
-#[derive(Drop)]
+#[derive(Clone, Copy)]
 pub enum ActiveSlot {
     Programmed(u32),
     Blank(u32),
@@ -57,7 +59,7 @@ pub fn part_of<'a>(image: &[u8], cells: &'a [u32], i: u32) -> &'a [u32]
 }
 
 // What the pairs of a partition are judged by.
-#[derive(Drop)]
+#[derive(Clone, Copy)]
 struct Terms {
     bound: u64,
     zeroizable: bool,

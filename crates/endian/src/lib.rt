@@ -1,6 +1,8 @@
 // Little-endian numbers in a slice of bytes, read and written. A byte past the end reads as 0, so
 // that each reader answers for every slice and place; the writer asks for room. The definitions are
 // in `specs/Endian`. It rests on `laws` alone.
+#![tactic(auto)]
+
 ghost use Rattle.std.specs.Prelude.{◌≡◌, ◌+◌, ◌≤◌, ◌<◌, length};
 ghost use Rattle.laws.specs.Put.{Put};
 ghost use Rattle.endian.specs.Endian.{byte_at, u16_at, u32_at, bytes4};

@@ -1,10 +1,12 @@
 // The engine: the orders that it gets, what it replies to one, and its block of 128 bytes, built as one
 // array and then written. The definitions are in `specs/Engine`. It rests on `endian`, `laws` and the kit's `bytes`.
+#![tactic(auto)]
+
 ghost use Rattle.std.specs.Prelude.{◌≡◌, ◌≤◌, length};
 ghost use Rattle.engine.specs.Engine.{engine_block};
 
 // What the engine is to do, with the timeout, and the place of a load or an unload.
-#[derive(Drop)]
+#[derive(Clone, Copy)]
 pub enum Order {
     Nothing,
     Clear { timeout: u32 },
@@ -14,7 +16,7 @@ pub enum Order {
 
 // What the engine replies to an order: that it is done, nothing in its time, or that it failed, with the
 // vendor's number.
-#[derive(Drop)]
+#[derive(Clone, Copy)]
 pub enum EngineReply {
     Done,
     TimedOut,
@@ -31,8 +33,8 @@ pub fn write_block(block: &mut [u8], mek: &[u8], tag: u64)
     ensures { block.new ≡ engine_block mek.now tag }
 {
     let mut built = [0u8; 128];
-    let _ = bytes::copy(mek, &mut built[..]);
+    built[..mek.len()].copy_from_slice(mek);
     let at = endian::put_u32(&mut built, METD, (tag % 0x1_0000_0000) as u32);
     let _ = endian::put_u32(&mut built, at, (tag / 0x1_0000_0000) as u32);
-    let _ = bytes::copy(&built[..], block);
+    block.copy_from_slice(&built[..]);
 }

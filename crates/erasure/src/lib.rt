@@ -5,6 +5,8 @@
 // in `specs/Laws`, what a run leaves of the whole array in `specs/Parts`, what holds of cuts in
 // `specs/Cuts`, what an answer says of the partition in `specs/Ends`, and of the fuses newly set in
 // `specs/Charge`. It rests on `burns`, `drive`, `cache`, `context` and what lies below them.
+#![tactic(auto)]
+
 ghost use Rattle.std.specs.Prelude.{◌≡◌, ◌^◌, ◌<◌, ◌≤◌};
 ghost use Rattle.laws.specs.Refusals.{number_of};
 ghost use Rattle.map.specs.Map.{header_of};
@@ -24,7 +26,7 @@ use partition::Lowest;
 // exactly if no pair is short or the first short cell is the indicator's, else torn. Or that it was cut,
 // the burns and the fuses newly set. Or the refusal's number, and the burns carried out, none but the
 // indicator's of refusal 15; no fuse was set.
-#[derive(Drop)]
+#[derive(Clone, Copy)]
 pub enum Answer {
     Ended {
         short: u32,

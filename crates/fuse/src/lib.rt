@@ -2,6 +2,8 @@
 // many a burn newly sets. A burn never clears a fuse and never sets a stuck one. The definitions are in
 // `specs/Fuse`, the laws of burning and counting in `specs/Burn`, those of the fuses newly set in
 // `specs/Charge`. It rests on `laws` alone.
+#![tactic(auto)]
+
 ghost use Rattle.std.specs.Prelude.{◌≡◌, true, false, ◌+◌, ◌-◌, ◌<◌, ◌≤◌, length};
 ghost use Rattle.std.specs.Int.Bits.{bit_and, bit_or};
 ghost use Rattle.fuse.specs.Fuse.{all_ones, burn, pair_of, ones_of, short, cells_in, burn_cell, burn_word, new_fuses};

@@ -5,6 +5,8 @@
 // for any words, but `count_of` asks for a table and `next_number` for a number that is left. The
 // definitions are in `specs/Handles` and `specs/Making`, the laws for callers in `specs/Laws`, `After` and
 // `Fresh`. It rests on `context` and `laws`.
+#![tactic(auto)]
+
 ghost use Rattle.std.specs.Prelude.{◌≡◌, true, false, ◌<◌, ◌≤◌, length, get_or};
 ghost use Rattle.laws.specs.Refusals.{number_of};
 ghost use Rattle.context.specs.State.{outcome};
@@ -27,7 +29,7 @@ const ALGORITHM: u64 = 0x1_0000_0000;
 const NO_FRESH_TABLE: u32 = 2;
 
 // That the table was made, or the refusal's number.
-#[derive(Drop)]
+#[derive(Clone, Copy)]
 pub enum Answer {
     Made,
     Refused(u32),

@@ -9,3 +9,4 @@
 // only its word depends on flag 8 (P7), `specs/Charge` that the fuses newly set add up (P8), and
 // `specs/SmallDrive` computes document 01's cases 1 to 10, as P4, P5 and P8 change them. It rests on
 // `direct`, `erasure` and `mailbox`, and on what lies below them.
+#![tactic(auto)]

@@ -4,3 +4,4 @@
 // call's refusals is given, `specs/Put` what pieces written into a buffer leave, `specs/Bits` the
 // digits of numbers and their order over any width, `specs/Ones` the number of ones. It rests on the
 // language's library alone.
+#![tactic(auto)]

@@ -19,7 +19,7 @@ use erasure::Answer;
 // What a command does that is not refused: what the engine is ordered, with the tag, the place of the
 // table whose handle is replaced by the first number (3: none), and the numbers of the response after
 // reserved. A refusal has its number, orders and replaces nothing and is not responded.
-#[derive(Drop)]
+#[derive(Clone, Copy)]
 pub struct Effect {
     pub refusal: u32,
     pub command: Command,

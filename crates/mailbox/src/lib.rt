@@ -5,6 +5,8 @@
 // too, whose burn has set no fuse. `call` answers for any bytes and any lengths. The definitions are in
 // `specs/Mailbox`, the laws in `specs/Judging`, `Laws`, `Told` and `Handles`. It rests on `codec`,
 // `engine`, `erasure`, `handles` and what lies below them.
+#![tactic(auto)]
+
 mod effects;
 mod judge;
 
@@ -18,7 +20,7 @@ use effects::Effect;
 use engine::Order;
 
 // The refusal's number, or the response's bytes and the engine's order.
-#[derive(Drop)]
+#[derive(Clone, Copy)]
 pub enum Reply {
     Refused(u32),
     Accepted { length: u32, order: Order },

@@ -2,13 +2,15 @@
 // public function answers for any bytes of any length; only a good map's fields mean anything. The
 // rules are in `specs/Map`, what a good map gives its callers in `specs/Laws`, what maps that differ
 // in flag 8 alone have in common in `specs/Guides`. It rests on `endian` and `laws`.
+#![tactic(auto)]
+
 ghost use Rattle.std.specs.Prelude.{◌≡◌, ◌+◌, ◌*◌, ◌^◌, ◌<◌, ◌≤◌, length};
 ghost use Rattle.laws.specs.Below.{all_below};
 ghost use Rattle.map.specs.Map.{header_of, entry_at, entry_of, end_of, software, zeroizable, secret, slot, older_guide};
 ghost use Rattle.map.specs.Map.{header_good, filler_good, entry_good, place_good, map_good};
 
 // The four numbers at the start of an image.
-#[derive(Drop)]
+#[derive(Clone, Copy)]
 pub struct Header {
     pub partitions: u16,
     pub cells: u16,
@@ -17,7 +19,7 @@ pub struct Header {
 }
 
 // One partition: its first cell, its number of cells, its kind and its flags.
-#[derive(Drop)]
+#[derive(Clone, Copy)]
 pub struct Entry {
     pub first: u16,
     pub n: u16,

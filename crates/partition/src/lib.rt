@@ -3,33 +3,35 @@
 // definitions are in `specs/Partition`, the laws for callers in `specs/Laws`, those of marked, and of
 // the states by it, in `specs/Marked`. It rests on `fuse` and `laws`. Every public function answers for
 // any number of cells.
+#![tactic(auto)]
+
 ghost use Rattle.std.specs.Prelude.{◌≡◌, ◌+◌, ◌*◌, ◌<◌, ◌≤◌, length};
 ghost use Rattle.partition.specs.Partition.{pair_at, short_at, short_pairs, lowest_pair, lowest_short, shorts_of, marked, tail, no_data, survey_of};
 ghost use Rattle.partition.specs.Partition.{SomeBesides, torn_pair};
 
 // The first cell of the lowest short pair, counted from the partition's start.
-#[derive(Drop)]
+#[derive(Clone, Copy)]
 pub enum Lowest {
     Cell(usize),
     Nothing,
 }
 
 // How many pairs are short, and the lowest of them.
-#[derive(Drop)]
+#[derive(Clone, Copy)]
 pub struct Shorts {
     pub count: usize,
     pub lowest: Lowest,
 }
 
 // A short pair: its first cell, counted from the partition's start, and its ones.
-#[derive(Drop)]
+#[derive(Clone, Copy)]
 pub struct ShortPair {
     pub cell: usize,
     pub ones: u64,
 }
 
 // What a partition's fuses say.
-#[derive(Drop)]
+#[derive(Clone, Copy)]
 pub enum State {
     Erased,
     Torn,
@@ -38,7 +40,7 @@ pub enum State {
 }
 
 // A partition's state and its number of short pairs.
-#[derive(Drop)]
+#[derive(Clone, Copy)]
 pub struct Survey {
     pub state: State,
     pub short: usize,

@@ -4,6 +4,8 @@
 // `specs/Writing`; that an image is written exactly when some good map has the text's fields is in
 // `specs/Exactly`. It rests on `map`, `endian` and `laws`, and for its definitions on `text` and on the
 // outcome of `context`.
+#![tactic(auto)]
+
 ghost use Rattle.std.specs.Prelude.{◌+◌, ◌*◌, ◌≤◌, ◌≡◌, true, ◌++◌, ltb, length, take};
 ghost use Rattle.laws.specs.Put.{Put};
 ghost use Rattle.context.specs.State.{outcome};
@@ -15,14 +17,14 @@ ghost use Rattle.plan.specs.Images.{Imaged};
 ghost use Rattle.plan.specs.Writing.{writing_of};
 
 // What came of a text: an image of so many bytes, or refused with its number.
-#[derive(Drop)]
+#[derive(Clone, Copy)]
 pub enum Answer {
     Written(u32),
     Refused(u32),
 }
 
 // What was read: whole lines of so many numbers, or a text that has not the form.
-#[derive(Drop)]
+#[derive(Clone, Copy)]
 enum Reading {
     Whole(usize),
     Formless,

@@ -3,6 +3,8 @@
 // its own, by hand (`proofs/MapReader`). `fields_of` has plain parameters, so that its callers need no
 // walk, and `read_partition` is the entry point: it refuses a bad map and a partition that is not
 // there. The definitions are in `specs/Reader`. It rests on `map`, and below it on `endian` and `laws`.
+#![tactic(auto)]
+
 ghost use Rattle.std.specs.Prelude.{◌≡◌};
 ghost use Rattle.map.specs.Map.{header_of, entry_of};
 ghost use Rattle.reader.specs.Reader.{both_of, fields_of, reading_of};
@@ -10,20 +12,20 @@ ghost use Rattle.reader.specs.Reader.{both_of, fields_of, reading_of};
 use map::{Entry, Header};
 
 // A borrowed map image.
-#[derive(Drop)]
+#[derive(Clone, Copy)]
 pub struct MapReader<'a> {
     pub image: &'a [u8],
 }
 
 // What a map says of one partition, with its header.
-#[derive(Drop)]
+#[derive(Clone, Copy)]
 pub struct Fields {
     pub header: Header,
     pub entry: Entry,
 }
 
 // A partition's fields, or the refusal's number.
-#[derive(Drop)]
+#[derive(Clone, Copy)]
 pub enum Reading {
     Partition(Fields),
     Refused(u32),

@@ -4,6 +4,8 @@
 // that have judged the drive. The definitions are in `specs/Reason`, the laws in `specs/Laws`, and
 // that each reason is given exactly when it holds in `specs/Exactly`. It rests on `drive`, `map` and
 // `partition`, and below them on `cache`, `context`, `endian`, `fuse` and `laws`.
+#![tactic(auto)]
+
 ghost use Rattle.std.specs.Prelude.{◌≡◌, ◌<◌};
 ghost use Rattle.map.specs.Map.{header_of};
 ghost use Rattle.drive.specs.Drive.{Whole};
@@ -15,7 +17,7 @@ use drive::{ActiveSlot, Check};
 
 // Why no HEK is offered, or that it is available, or the refusal's number. The cell is the first of
 // the torn slot's first short pair, counted in the whole array; the ones are that pair's.
-#[derive(Drop)]
+#[derive(Clone, Copy)]
 pub enum Reason {
     Available,
     NoSlot,

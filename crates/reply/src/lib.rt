@@ -2,6 +2,8 @@
 // is refused where none is awaited. `take_reply` answers for any words of the context, which is all that
 // it is lent. The definitions are in `specs/Reply`, the laws in `specs/Laws`. It rests on `cache` and
 // `engine`, and on what lies below them.
+#![tactic(auto)]
+
 ghost use Rattle.std.specs.Prelude.{◌≡◌};
 ghost use Rattle.context.specs.State.{outcome};
 ghost use Rattle.reply.specs.Reply.{kind_done, kind_after, taking_of};
@@ -10,7 +12,7 @@ use context::Context;
 use engine::EngineReply;
 
 // That the reply was taken, or the refusal's number.
-#[derive(Drop)]
+#[derive(Clone, Copy)]
 pub enum Answer {
     Taken,
     Refused(u32),

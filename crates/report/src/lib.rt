@@ -4,6 +4,8 @@
 // of all programs together in `specs/Report`; the laws in `specs/Laws`, `specs/Maps` and
 // `specs/Longer`. It rests on `drive`, `reader`, `map`, `plan`, `partition`, `text` and `wording`, and
 // below them on `cache`, `context`, `endian`, `fuse`, `laws` and `reason`.
+#![tactic(auto)]
+
 ghost use Rattle.std.specs.Prelude.{◌≡◌, ◌++◌, ◌+◌, ◌≤◌, length, drop};
 ghost use Rattle.laws.specs.Below.{join_below};
 ghost use Rattle.drive.specs.Drive.{Whole};
@@ -16,7 +18,7 @@ use partition::{State, Survey};
 use plan::Answer;
 
 // The programs: the state of each partition of a drive, why it offers no HEK, and a map from its text.
-#[derive(Drop)]
+#[derive(Clone, Copy)]
 pub enum Program {
     Status,
     Why,
@@ -24,35 +26,35 @@ pub enum Program {
 }
 
 // What is printed of a drive: the table of its partitions, or the line that says why.
-#[derive(Drop)]
+#[derive(Clone, Copy)]
 pub enum View {
     Table,
     Line,
 }
 
 // Where a program prints: on standard output, or on standard error.
-#[derive(Drop)]
+#[derive(Clone, Copy)]
 pub enum Stream {
     Output,
     Errors,
 }
 
 // How many bytes a program prints, and where.
-#[derive(Drop)]
+#[derive(Clone, Copy)]
 pub struct Report {
     pub stream: Stream,
     pub count: usize,
 }
 
 // What the input is: a whole drive, or refused with its number, a byte, which can always be printed.
-#[derive(Drop)]
+#[derive(Clone, Copy)]
 pub enum Reading {
     Drive,
     Refused(u8),
 }
 
 // What a program could not do: read its input, or write its output.
-#[derive(Drop)]
+#[derive(Clone, Copy)]
 pub enum Failure {
     Input,
     Output,

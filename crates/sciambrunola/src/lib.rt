@@ -5,6 +5,8 @@
 // lengths, and asks nothing of its caller but what include/sciambrunola.h says of pointers. It rests on
 // `reader`, `plan`, `states`, `reason`, `cache`, `handles`, `direct`, `erasure`, `mailbox` and `reply`, and
 // on the array of `context`.
+#![tactic(auto)]
+
 mod numbers;
 mod reasons;
 mod replies;

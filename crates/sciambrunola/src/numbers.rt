@@ -18,7 +18,7 @@ use states::Listing;
 
 // What a map says of a partition, with its header. refusal: 0 where it is told.
 #[repr(C)]
-#[derive(Drop)]
+#[derive(Clone, Copy)]
 pub struct SciFields {
     pub refusal: u32,
     pub partitions: u32,
@@ -32,7 +32,7 @@ pub struct SciFields {
 
 // How long an image was written. refusal: 0 where one was.
 #[repr(C)]
-#[derive(Drop)]
+#[derive(Clone, Copy)]
 pub struct SciWritten {
     pub refusal: u32,
     pub bytes: u32,
@@ -40,7 +40,7 @@ pub struct SciWritten {
 
 // How many partitions were listed. refusal: 0 where they were.
 #[repr(C)]
-#[derive(Drop)]
+#[derive(Clone, Copy)]
 pub struct SciListing {
     pub refusal: u32,
     pub partitions: u32,
@@ -49,7 +49,7 @@ pub struct SciListing {
 // What is in a place of the key cache. kind: 0 empty, 1 held, 2 waiting, 3 unsure; tag: 0 where it is
 // empty.
 #[repr(C)]
-#[derive(Drop)]
+#[derive(Clone, Copy)]
 pub struct SciPlace {
     pub kind: u32,
     pub tag: u64,
@@ -58,7 +58,7 @@ pub struct SciPlace {
 // A direct command's answer. kind: 0 a word, 1 done, 2 withheld, 3 refused. new: the fuses newly set, 0
 // where the answer has no such number.
 #[repr(C)]
-#[derive(Drop)]
+#[derive(Clone, Copy)]
 pub struct SciAnswer {
     pub kind: u32,
     pub refusal: u32,
@@ -69,7 +69,7 @@ pub struct SciAnswer {
 // An erasure's answer. kind: 0 ended (the partition is erased exactly if `short` is 0 or `first` is its
 // indicator's first cell, else torn), 1 cut, 2 refused. new: the fuses newly set, 0 where refused.
 #[repr(C)]
-#[derive(Drop)]
+#[derive(Clone, Copy)]
 pub struct SciErasure {
     pub kind: u32,
     pub refusal: u32,
@@ -81,7 +81,7 @@ pub struct SciErasure {
 
 // The mailbox's answer. order: 0 none, 1 clear, 2 load, 3 unload.
 #[repr(C)]
-#[derive(Drop)]
+#[derive(Clone, Copy)]
 pub struct SciReply {
     pub refusal: u32,
     pub length: u32,

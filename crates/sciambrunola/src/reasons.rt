@@ -8,7 +8,7 @@ use reason::Reason;
 // Why no HEK is offered. kind: 0 it is available, 1 no slot, 2 all slots erased, 3 the active slot is
 // blank, 4 it is torn, 5 refused.
 #[repr(C)]
-#[derive(Drop)]
+#[derive(Clone, Copy)]
 pub struct SciReason {
     pub kind: u32,
     pub refusal: u32,

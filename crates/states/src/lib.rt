@@ -2,6 +2,8 @@
 // arrays: what a caller of the library asks a drive. The map is judged once for all partitions. The
 // definitions are in `specs/States`, the laws in `specs/Laws`. It rests on `drive`, `map` and
 // `partition`, and below them on `cache`, `context`, `endian` and `laws`.
+#![tactic(auto)]
+
 ghost use Rattle.std.specs.Prelude.{◌≡◌, ◌≤◌, length};
 ghost use Rattle.context.specs.State.{outcome};
 ghost use Rattle.map.specs.Map.{header_of};
@@ -12,7 +14,7 @@ use drive::Check;
 use partition::State;
 
 // How many partitions were listed, or the refusal's number.
-#[derive(Drop)]
+#[derive(Clone, Copy)]
 pub enum Listing {
     Listed(u32),
     Refused(u32),

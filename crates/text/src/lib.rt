@@ -1,6 +1,8 @@
 // Text in a lent buffer, piece after piece: bytes as they are, and numbers in decimal. Bytes outside
 // the piece keep their values. The definitions are in `specs/Text`, and in `laws` `specs/Put`. It
 // rests on the kit's `bytes` and on `laws`.
+#![tactic(auto)]
+
 ghost use Rattle.std.specs.Prelude.{◌+◌, ◌≤◌, ◌<◌, ◌≡◌, ◌++◌, length};
 ghost use Rattle.text.specs.Text.{digit, zeros, decimal};
 ghost use Rattle.laws.specs.Put.{Put};
@@ -10,7 +12,9 @@ pub fn put(out: &mut [u8], at: usize, t: &[u8]) -> usize
     requires { at + length t.now ≤ length out.old }
     ensures { Put at t.now out.old out.new result }
 {
-    at + bytes::copy(t, &mut out[at..])
+    let end = at + t.len();
+    out[at..end].copy_from_slice(t);
+    end
 }
 
 // The last decimal digit of `v`, as text.

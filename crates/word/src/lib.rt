@@ -2,6 +2,8 @@
 // for any bytes and any cell; in a good map each word lies in the one partition that the answer
 // names. The definitions are in `specs/Word`, the laws for callers in `specs/Laws`. It rests on
 // `map`, on `partition` for where data end, and below them on `fuse`, `endian` and `laws`.
+#![tactic(auto)]
+
 ghost use Rattle.std.specs.Prelude.{◌≡◌, ◌<◌};
 ghost use Rattle.map.specs.Map.{end_of};
 ghost use Rattle.word.specs.Word.{holds, partition_of, word_in, word_at};
@@ -9,7 +11,7 @@ ghost use Rattle.word.specs.Word.{holds, partition_of, word_in, word_at};
 use map::Entry;
 
 // What a word holds.
-#[derive(Drop)]
+#[derive(Clone, Copy)]
 pub enum Role {
     Data,
     Digest,
@@ -18,7 +20,7 @@ pub enum Role {
 
 // The word that starts at a cell: its partition, what it holds, and whether it is a pair (`wide`)
 // or one cell; or none.
-#[derive(Drop)]
+#[derive(Clone, Copy)]
 pub enum Lookup {
     Word {
         partition: u32,

@@ -2,6 +2,8 @@
 // with its pair; and a refusal, which every program prints so. The words are in `specs/Wording`, the
 // laws in `specs/Laws`. It rests on `reason`, `map` and `text`, and below them on `cache`, `context`,
 // `drive`, `endian`, `fuse`, `laws` and `partition`.
+#![tactic(auto)]
+
 ghost use Rattle.std.specs.Prelude.{◌++◌, ◌+◌, ◌≤◌, ◌<◌, length};
 ghost use Rattle.laws.specs.Put.{Put};
 ghost use Rattle.drive.specs.Drive.{Whole};
