@@ -1,0 +1,19 @@
+-- `endian::u16_at` meets its contract: where both bytes are there the sum is the definition; else the low byte is all. Assumes nothing.
+use Prim.Native.Nat.{◌+◌, ◌≤◌}
+use mathlib.Core.Path.{sym, ◌∙◌}
+use mathlib.Core.Logic.{⊎_elim}
+use native.Mathlib.Omega.{arith}
+use lib.ListN.{length}
+use Rattle.endian.specs.Endian.{u16_at, low_u16}
+use Rattle.endian.proofs.u16_at.Goals as goal
+use Rattle.endian.proofs.u16_at.Goals.{then-bytes-ge2+else-k-bytes, else-bytes-ge2}
+
+pub returns-then-k-bytes : goal.returns-then-k-bytes
+unfolding u16_at
+returns-then-k-bytes c = omega arith
+
+pub returns : goal.returns
+returns c =
+    let past : length c.args.bytes.now ≤ c.args.k + 1 =
+        elim c.if-bytes-ge2.branch [ then-bytes-ge2+else-k-bytes w ↦ omega arith | else-bytes-ge2 w ↦ omega arith ] in
+    c.widened-2.ensures.0 ∙ c.byte_at.ensures ∙ sym (low_u16 _ _ past)

@@ -1,0 +1,8 @@
+-- `handles::rotate` meets its contract: there is no place past the last. Assumes nothing.
+use Rattle.handles.specs.Laws.{rotated_in, rotated_past}
+use Rattle.handles.proofs.rotate.Goals as goal
+
+pub returns-then-k-lt-MOST : goal.returns-then-k-lt-MOST
+returns-then-k-lt-MOST c =
+    let a = c.args in
+    rw (c.entry_of.ensures, c.algorithm_at-algorithm.ensures) (rotated_in a.k a.number a.context.now c.if-k-lt-MOST.true)

@@ -1,0 +1,26 @@
+-- `partition::short_pairs` meets its contract: the loop's invariant: `short` pairs below `j` are short. Assumes nothing.
+use Prim.Native.Nat.{◌≤◌, ◌-◌}
+use mathlib.Core.Path.{◌≡◌, refl, sym, ◌∙◌}
+use mathlib.Core.Logic.{⊎_elim}
+use mathlib.Core.Bool.{true, false}
+use native.Mathlib.Omega.{arith}
+use Rattle.laws.specs.Below.{count_below, count_step, count_le}
+use Rattle.partition.specs.Partition.{pairs, short_at}
+use Rattle.partition.proofs.short_pairs.Goals as goal
+use Rattle.partition.proofs.short_pairs.Goals.{else-short_at, then-short_at}
+
+pub loop-j-init : goal.loop-j-init
+unfolding count_below
+loop-j-init c = (omega arith, refl)
+
+pub overflow_add-short : goal.overflow_add-short
+overflow_add-short c =
+    let a = c.args in
+    omega (arith, count_le (short_at a.bound a.part.now) c.loop-j.j)
+
+pub loop-j-preserved : goal.loop-j-preserved
+loop-j-preserved c =
+    let a = c.args in
+    let said = c.short_at.ensures in
+    let turn = count_step (short_at a.bound a.part.now) c.loop-j.j in
+    elim c.if-short_at.branch [ then-short_at w ↦ omega (arith, turn true (sym said ∙ w.if-short_at.true)) | else-short_at w ↦ omega (arith, turn false (sym said ∙ w.if-short_at.false)) ]
