@@ -1,0 +1,20 @@
+-- `burns::run` meets its contract: the indicator's burn, then each turn a word of the data, and the last burn; what is left of the run is the
+-- loop's invariant. Assumes nothing.
+use Prim.Native.Nat.{ℕ, ◌+◌, ◌-◌, ◌^◌, ◌≤◌, ◌<◌, min}
+use mathlib.Core.Path.{◌≡◌, sym, ◌∙◌}
+use mathlib.Core.List.{List}
+use native.Mathlib.Omega.{arith}
+use lib.ListN.{length}
+use borrow.Author.Tests.{not-true, not-false}
+use Rattle.fuse.specs.Charge.{new_most}
+use Rattle.burns.specs.Run.{order, tally_of}
+use Rattle.burns.specs.Turns.{Running, first_cut, first_stops, first_goes, data_goes, last_turn, order_fewer, order_two, data_within}
+use Rattle.burns.proofs.run.Given as goal
+
+-- whatever run stood before the loop, with the indicator burned, stands still
+abbrev pub invariant-loop-burns : goal.invariant-loop-burns
+invariant-loop-burns l = ((s : List ℕ) → Running l.marks l.software l.k l.mask s (tally_of l.initial.cells 1 l.initial.new) → Running l.marks l.software l.k l.mask s (tally_of l.cells l.burns l.new))
+    × (1 ≤ l.burns) × (l.burns ≤ l.last)
+
+abbrev pub decreases-loop-burns : goal.decreases-loop-burns
+decreases-loop-burns l = l.last - l.burns
