@@ -1,0 +1,20 @@
+-- `plan::put_image` meets its contract: the loop's invariant: the entries below `i` are written behind the header, and all of them fit. Assumes nothing.
+use Prim.Native.Nat.{◌+◌, ◌-◌, ◌*◌, ◌≤◌}
+use mathlib.Core.Path.{◌≡◌, refl, ap, ◌∙◌}
+use mathlib.Core.Bool.{true, not}
+use native.Mathlib.Omega.{arith}
+use lib.ListN.{take}
+use borrow.Author.Tests.{ltb-false}
+use Rattle.laws.specs.Tests.{neither}
+use Rattle.laws.specs.Below.{all_below, all_step}
+use Rattle.laws.specs.Put.{Put, then, retext, nothing}
+use Rattle.plan.specs.Reading.{plan_by}
+use Rattle.plan.specs.Images.{fits_at, entries_below, entries_start, kept_fits, kept_more, not_imaged, imaged}
+use Rattle.plan.proofs.put_image.Given as goal
+
+abbrev pub invariant-loop-i : goal.invariant-loop-i
+invariant-loop-i l = let p = plan_by (take (2 + 4 * l.lines) l.numbers) in
+    (l.i ≤ l.lines) × (l.at ≡ 8 + 8 * l.i) × (all_below (fits_at p) l.i ≡ true) × Put l.initial.at (entries_below p l.i) l.initial.image l.image l.at
+
+abbrev pub decreases-loop-i : goal.decreases-loop-i
+decreases-loop-i l = l.lines - l.i
