@@ -10,6 +10,7 @@ use Rattle.plan.specs.Steps.{Stands, digit_stands, digit_breaks, end_stands, end
 use Rattle.plan.specs.Steps.{kept_length, formless, ends_whole, ends_formless}
 use Rattle.std.proofs.Common.{rules}
 use Rattle.plan.proofs.read_numbers.Goals as goal
+use Rattle.plan.proofs.read_numbers.Goals.{then-is_digit+else-value-gt-MOST, else-is_digit+else-value-c}
 
 pub loop-k-init : goal.loop-k-init
 unfolding read_of
@@ -40,15 +41,15 @@ loop-k-preserved c =
     let byte = get_or t loop.k 0 in
     let more = read_more t loop.k c.loop-k-test.true in
     let far : loop.k + 1 ≤ length t = omega (arith, c.loop-k-test.true) in
-    ⊎_elim
-    (λ w.
-    let here = sym c.is_digit.ensures ∙ w.0.taken in
-    let stands = digit_stands loop.count loop.value loop.numbers byte s _ loop.invariant.3 here w.1.ensures w.2.left in
-    rw (w.3, w.4, w.5, more) (far, omega (arith, loop.invariant.1), loop.invariant.2, stands))
-    (λ w.
-    let here = sym c.is_digit.ensures ∙ w.0.left in
-    let end = ended loop.value byte loop.count (rw w.1.ensures at w.2.left) in
+    elim c.if-is_digit.branch [
+    then-is_digit+else-value-gt-MOST w ↦
+    let here = sym c.is_digit.ensures ∙ w.if-is_digit.true in
+    let stands = digit_stands loop.count loop.value loop.numbers byte s _ loop.invariant.3 here w.longer_by-value.ensures w.if-value-gt-MOST.false in
+    rw (w.numbers-is, w.count-is, w.value-is, more) (far, omega (arith, loop.invariant.1), loop.invariant.2, stands)
+    | else-is_digit+else-value-c w ↦
+    let here = sym c.is_digit.ensures ∙ w.if-is_digit.false in
+    let end = ended loop.value byte loop.count (rw w.byte_after.ensures at w.if-value-c.false) in
     let stands = end_stands loop.count loop.value loop.numbers byte s loop.invariant.2 loop.invariant.3 here end.0 end.1 in
     let long = kept_length loop.numbers loop.count loop.value ∙ loop.invariant.2 in
-    rw (w.7, w.8, w.9, more, w.4.ensures) (far, omega (arith, loop.invariant.1), long, stands))
-    c.if-is_digit.branch
+    rw (w.numbers-is, w.count-is, w.value-is, more, w.keep.ensures) (far, omega (arith, loop.invariant.1), long, stands)
+    ]

@@ -8,28 +8,25 @@ use Rattle.plan.specs.Reading.{plan_by}
 use Rattle.plan.specs.Steps.{reading_of}
 use Rattle.plan.specs.declared.Reading.TheVariants.{Whole}
 use Rattle.plan.proofs.write_map.Goals as goal
-use Rattle.plan.proofs.write_map.Goals.{After-put_image, In-Whole-2}
+use Rattle.plan.proofs.write_map.Goals.{After-put_image}
 
 pub returns-in_default : goal.returns-in_default
-returns-in_default c = found_formless _ _ (sym c.enum_told-1.given.1 ∙ c.read_numbers.ensures.0)
-
--- the text has whole lines of so many numbers
-told : (c : In-Whole-2) → Whole c.count-1.given.0.0 ≡ reading_of c.args.text.now
-told c = sym c.count-1.given.1 ∙ c.read_numbers.ensures.0
+returns-in_default c = found_formless _ _ (sym c.in_default.is ∙ c.read_numbers.ensures.0)
 
 pub returns-then-is_short : goal.returns-then-is_short
-returns-then-is_short c = found_short _ _ _ (told (goal.at.returns-then-is_short c).In-Whole-2) (sym c.is_short.ensures ∙ c.if-is_short.true)
+returns-then-is_short c = found_short _ _ _ (sym c.in-Whole.is ∙ c.read_numbers.ensures.0) (sym c.is_short.ensures ∙ c.if-is_short.true)
 
 pub returns-then-count-gt-KEPT : goal.returns-then-count-gt-KEPT
-returns-then-count-gt-KEPT c = found_many _ _ _ (told (goal.at.returns-then-count-gt-KEPT c).In-Whole-2) (sym c.is_short.ensures ∙ c.if-is_short.false) c.if-count-gt-KEPT.true
+returns-then-count-gt-KEPT c =
+    found_many _ _ _ (sym c.in-Whole.is ∙ c.read_numbers.ensures.0) (sym c.is_short.ensures ∙ c.if-is_short.false) c.if-count-gt-KEPT.true
 
 -- what was found of the image
 image : (c : After-put_image) →
-    let lines = c.count-1.given.0.0 / 4 in
+    let lines = c.in-Whole.count / 4 in
     let plan = plan_by (take (2 + 4 * lines) c.read_numbers.new.numbers) in
     Found c.args.text.now c.args.out.now plan (8 + 8 * lines) (take (8 + 8 * lines) c.put_image.new.image) c.put_image.result
 image c =
-    found _ _ _ (told c.before.before.before.before.before.before.before) (sym c.is_short.ensures ∙ c.if-is_short.false) _ c.read_numbers.ensures.1
+    found _ _ _ (sym c.in-Whole.is ∙ c.read_numbers.ensures.0) (sym c.is_short.ensures ∙ c.if-is_short.false) _ c.read_numbers.ensures.1
     c.if-count-gt-KEPT.false _ _ _ c.put_image.ensures
 
 pub returns-then-not-put_image : goal.returns-then-not-put_image
