@@ -4,3 +4,9 @@ use lib.ListN.{length}
 use Rattle.map.specs.Laws.{map_entry}
 use Rattle.drive.specs.Laws.{part_is}
 use Rattle.drive.proofs.part_of.Goals as goal
+
+pub slice_bounds-result-end : goal.slice_bounds-result-end
+slice_bounds-result-end c =
+    let whole = c.requires.0 in
+    let end : c.read_entry-x.result.first + c.read_entry-x.result.n ≤ length c.args.cells.now = rw (c.read_entry-x.ensures, whole.long) (map_entry _ whole.good _ c.requires.1).within in
+    end

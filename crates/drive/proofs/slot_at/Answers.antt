@@ -13,26 +13,22 @@ use Rattle.drive.proofs.slot_at.Goals.{After-survey_cells-survey, Else-not-is_sl
 pub returns-then-not-is_slot : goal.returns-then-not-is_slot
 returns-then-not-is_slot c = sym (no_slot _ _ _ _ c.read_entry.ensures (sym c.is_slot.ensures ∙ c.if-not-is_slot.true))
 
--- past the first branch the entry that was read is a slot
-a_slot : (c : Else-not-is_slot) → slot c.read_entry.result ≡ true
-a_slot c = sym c.is_slot.ensures ∙ c.if-not-is_slot.false
-
 -- the answer for the state that the survey found
 answer : (c : After-survey_cells-survey) (state : State) → c.survey_cells-survey.result.state ≡ state
     → let a = c.args in
     slot_in state a.i ≡ slot_at a.image.now a.cells.now a.i
 answer c state e =
     let survey = survey_is _ _ _ _ _ c.terms_of-terms.ensures c.part_of.ensures _ c.survey_cells-survey.ensures in
-    sym (slot_by _ _ _ _ _ _ c.read_entry.ensures (a_slot c.before.before.before) survey e)
+    sym (slot_by _ _ _ _ _ _ c.read_entry.ensures ((sym c.is_slot.ensures ∙ c.if-not-is_slot.false)) survey e)
 
 pub returns-in-Erased : goal.returns-in-Erased
-returns-in-Erased c = answer (goal.at.returns-in-Erased c).After-survey_cells-survey Erased c.enum_told-1.given.1
+returns-in-Erased c = answer (goal.at.returns-in-Erased c).After-survey_cells-survey Erased c.in-Erased.is
 
 pub returns-in-Torn : goal.returns-in-Torn
-returns-in-Torn c = answer (goal.at.returns-in-Torn c).After-survey_cells-survey Torn c.enum_told-in-Torn-1.given.1
+returns-in-Torn c = answer (goal.at.returns-in-Torn c).After-survey_cells-survey Torn c.in-Torn.is
 
 pub returns-in-Blank : goal.returns-in-Blank
-returns-in-Blank c = answer (goal.at.returns-in-Blank c).After-survey_cells-survey Blank c.enum_told-in-Blank-1.given.1
+returns-in-Blank c = answer (goal.at.returns-in-Blank c).After-survey_cells-survey Blank c.in-Blank.is
 
 pub returns-in-Programmed : goal.returns-in-Programmed
-returns-in-Programmed c = answer (goal.at.returns-in-Programmed c).After-survey_cells-survey Programmed c.enum_told-in-Programmed-1.given.1
+returns-in-Programmed c = answer (goal.at.returns-in-Programmed c).After-survey_cells-survey Programmed c.in-Programmed.is
