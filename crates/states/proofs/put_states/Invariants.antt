@@ -1,0 +1,23 @@
+-- `states::put_states` meets its contract: the loop's invariant: the front of each array lists the partitions below `i`, the rest is as it was. Assumes nothing.
+use Prim.Native.Nat.{◌≤◌, ◌-◌}
+use mathlib.Core.Path.{◌≡◌, ap}
+use mathlib.Core.List.{◌++◌}
+use native.Mathlib.Omega.{arith}
+use lib.ListN.{length, drop, length-set}
+use Rattle.laws.specs.Below.{join_below}
+use Rattle.map.specs.Map.{header_of}
+use Rattle.map.specs.Laws.{map_header}
+use Rattle.map.specs.declared.Header.{Header}
+use Rattle.partition.specs.declared.Survey.{Survey}
+use Rattle.drive.specs.Laws.{short_most}
+use Rattle.states.specs.States.{state_in, short_in}
+use Rattle.states.specs.Laws.{state_stored, short_stored}
+use Rattle.states.proofs.put_states.Given as goal
+
+abbrev pub invariant-loop-i : goal.invariant-loop-i
+invariant-loop-i l = (l.i ≤ l.partitions)
+    × ((length l.states ≡ length l.initial.states) × (l.states ≡ join_below (state_in l.image l.cells) l.i ++ drop l.i l.initial.states))
+    × ((length l.shorts ≡ length l.initial.shorts) × (l.shorts ≡ join_below (short_in l.image l.cells) l.i ++ drop l.i l.initial.shorts))
+
+abbrev pub decreases-loop-i : goal.decreases-loop-i
+decreases-loop-i l = l.partitions - l.i
