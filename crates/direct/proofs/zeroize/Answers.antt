@@ -5,39 +5,31 @@ use Rattle.direct.specs.Direct.{clears, changes_slot, cells_after, new_after, fo
 use Rattle.direct.specs.Laws.{zeroize_forbidden, found_is, find_refused, named, word_at_lem, word_carried}
 use Rattle.std.proofs.Common.{rules}
 use Rattle.direct.proofs.zeroize.Goals as goal
-use Rattle.direct.proofs.zeroize.Goals.{In-Word-2}
-
--- the word that was found
-at_word : (c : In-Word-2)
-    → let a = c.args in
-    let w = c.partition-1.given.0 in
-    Word w.0 w.1.0 w.1.1.0 ≡ found_of a.image.now a.cells.now a.marks.now a.cell
-at_word c = found_is _ _ _ _ c.check_drive.ensures c.find.ensures c.partition-1.given.1
 
 pub returns-then-not-is_zeroizable : goal.returns-then-not-is_zeroizable
-returns-then-not-is_zeroizable c = word_at_lem _ _ _ _ (at_word (goal.at.returns-then-not-is_zeroizable c).In-Word-2) 0 tt (sym (zeroize_forbidden _ _ c.read_entry-x.ensures _ _ _ _ c.is_zeroizable.ensures) ∙ c.if-not-is_zeroizable.true-raw)
+returns-then-not-is_zeroizable c = word_at_lem _ _ _ _ (found_is _ _ _ _ c.check_drive.ensures c.find.ensures c.in-Word.is) 0 tt (sym (zeroize_forbidden _ _ c.read_entry-x.ensures _ _ _ _ c.is_zeroizable.ensures) ∙ c.if-not-is_zeroizable.true-raw)
 
 pub returns-then-is_slot_in_use : goal.returns-then-is_slot_in_use
 unfolding clears changes_slot
 returns-then-is_slot_in_use c =
     let may = sym (zeroize_forbidden _ _ c.read_entry-x.ensures _ _ _ _ c.is_zeroizable.ensures) ∙ c.if-not-is_zeroizable.false-raw in
-    word_at_lem _ _ _ _ (at_word (goal.at.returns-then-is_slot_in_use c).In-Word-2) 2 (may, (refl, tt)) (sym c.is_slot_in_use.ensures ∙ c.if-is_slot_in_use.true)
+    word_at_lem _ _ _ _ (found_is _ _ _ _ c.check_drive.ensures c.find.ensures c.in-Word.is) 2 (may, (refl, tt)) (sym c.is_slot_in_use.ensures ∙ c.if-is_slot_in_use.true)
 
 pub burn_word-new-requires : goal.burn_word-new-requires
 burn_word-new-requires c =
-    let n = named _ _ _ _ (at_word (goal.at.burn_word-new-requires c).In-Word-2) in
+    let n = named _ _ _ _ (found_is _ _ _ _ c.check_drive.ensures c.find.ensures c.in-Word.is) in
     (n.within, rw n.marks_long n.within)
 
 pub word_of-word-requires : goal.word_of-word-requires
-word_of-word-requires c = search (rules, (named _ _ _ _ (at_word (goal.at.word_of-word-requires c).In-Word-2)).within)
+word_of-word-requires c = search (rules, (named _ _ _ _ (found_is _ _ _ _ c.check_drive.ensures c.find.ensures c.in-Word.is)).within)
 
 pub returns-in-Refused : goal.returns-in-Refused
-returns-in-Refused c = find_refused _ _ _ _ (found_is _ _ _ _ c.check_drive.ensures c.find.ensures c.number-1.given.1)
+returns-in-Refused c = find_refused _ _ _ _ (found_is _ _ _ _ c.check_drive.ensures c.find.ensures c.in-Refused.is)
 
 pub returns-else-is_slot_in_use : goal.returns-else-is_slot_in_use
 unfolding clears changes_slot cells_after new_after
 returns-else-is_slot_in_use c =
     let may = sym (zeroize_forbidden _ _ c.read_entry-x.ensures _ _ _ _ c.is_zeroizable.ensures) ∙ c.if-not-is_zeroizable.false-raw in
     let free = sym c.is_slot_in_use.ensures ∙ c.if-is_slot_in_use.false in
-    word_carried _ _ _ _ (at_word (goal.at.returns-else-is_slot_in_use c).In-Word-2) (may, (refl, (free, tt))) c.burn_word-new.ensures.0 c.burn_word-new.ensures.1 c.read_header-header.ensures
+    word_carried _ _ _ _ (found_is _ _ _ _ c.check_drive.ensures c.find.ensures c.in-Word.is) (may, (refl, (free, tt))) c.burn_word-new.ensures.0 c.burn_word-new.ensures.1 c.read_header-header.ensures
     c.read_entry-x.ensures c.word_of-word.ensures c.zeroized.ensures

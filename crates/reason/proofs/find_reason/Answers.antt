@@ -5,10 +5,10 @@ use Rattle.reason.specs.Laws.{reason_refused, reason_given}
 use Rattle.reason.proofs.find_reason.Goals as goal
 
 pub reason_in-requires : goal.reason_in-requires
-reason_in-requires c = (judged _ _ _ _ (sym c.in-requires.is ∙ c.check_drive.ensures)).whole
+reason_in-requires c = (judged _ _ _ _ (sym c.in-Ready.is ∙ c.check_drive.ensures)).whole
 
 pub returns-in-Refused : goal.returns-in-Refused
-returns-in-Refused c = reason_refused _ _ _ (sym c.number-1.given.1 ∙ c.check_drive.ensures)
+returns-in-Refused c = reason_refused _ _ _ (sym c.in-Refused.is ∙ c.check_drive.ensures)
 
 pub returns-in-Ready : goal.returns-in-Ready
 returns-in-Ready c = reason_given _ _ _ (sym c.in-Ready.is ∙ c.check_drive.ensures) c.reason_in.ensures

@@ -6,10 +6,10 @@ use Rattle.std.proofs.Common.{rules}
 use Rattle.states.proofs.list_states.Goals as goal
 
 pub put_states-requires : goal.put_states-requires
-put_states-requires c = ((judged _ _ _ _ (sym c.enum_told-1.given.1 ∙ c.check_drive.ensures)).whole, search rules, search rules)
+put_states-requires c = ((judged _ _ _ _ (sym c.in-Ready.is ∙ c.check_drive.ensures)).whole, search rules, search rules)
 
 pub returns-in-Refused : goal.returns-in-Refused
-returns-in-Refused c = lists_none _ _ _ _ (sym c.number-1.given.1 ∙ c.check_drive.ensures)
+returns-in-Refused c = lists_none _ _ _ _ (sym c.in-Refused.is ∙ c.check_drive.ensures)
 
 pub returns-in-Ready : goal.returns-in-Ready
 returns-in-Ready c = lists_all _ _ _ _ (sym c.in-Ready.is ∙ c.check_drive.ensures) c.put_states.ensures
