@@ -4,11 +4,15 @@ use Rattle.std.specs.Prelude.{ℕ, ◌≤◌, ◌≡◌, true, false, List, leng
 use Rattle.std.proofs.Common.{sym, ap, arith, ltb-true}
 use Rattle.std.proofs.lemmas.Bool.{false≢true}
 use Rattle.std.specs.Int.Signed.{lt_z, non_neg}
-use Rattle.libc.specs.Io.{Moved}
 use Rattle.report.specs.declared.Stream.{Stream}
 use Rattle.report.specs.declared.Stream.TheVariants.{Output, Errors}
 use Rattle.desk.specs.declared.Intake.{Intake}
 use Rattle.desk.specs.declared.Intake.TheVariants.{Bytes, Unread}
+
+-- what a call that is handed n bytes may answer: -1, or how many bytes it moved, at most n
+abbrev pub Moved : ℕ → ℤ → Type 0
+Moved n (pos k) = k ≤ n
+Moved n (negsuc k) = k ≡ 0
 
 -- what the answer of a read says: how many bytes came, none at the input's end, or that it failed
 abbrev pub intake_of : (got : ℤ) → Intake

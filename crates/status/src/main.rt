@@ -4,6 +4,6 @@
 
 use report::Program;
 
-fn main() {
-    desk::run(Program::Status);
+fn main(rt: HostRuntime) {
+    desk::run(&rt, Program::Status);
 }

@@ -4,6 +4,6 @@
 
 use report::Program;
 
-fn main() {
-    desk::run(Program::Why);
+fn main(rt: HostRuntime) {
+    desk::run(&rt, Program::Why);
 }
