@@ -2,7 +2,7 @@
 -- its proof. That 15 leaves every cell is `refused_unchanged`, that it tells one burn `erasure` burns-told. Assumes nothing.
 use Rattle.std.specs.Prelude.{ℕ, zero, suc, ◌≤◌, ◌<◌, ◌≡◌, ◌⊎◌, ◌↔◌, List, [], length}
 use Rattle.std.proofs.Math.Path.{refl}
-use Rattle.std.proofs.Common.{sym, ap, ◌∙◌, ⊎_elim, arith, ne_eqb, leb-false}
+use Rattle.std.proofs.Common.{sym, ap, subst, ◌∙◌, ⊎_elim, arith, ne_eqb, leb-false}
 use Rattle.std.proofs.lemmas.Bool.{not-false}
 use Rattle.laws.specs.Refusals.{first_elim, not_numbered}
 use Rattle.context.specs.State.{State, Outcome, outcome, refusing}
@@ -22,9 +22,10 @@ use Rattle.codec.specs.Laws.{code_of_lem}
 use Rattle.mailbox.specs.declared.effects.Effect.{Effect}
 use Rattle.mailbox.specs.Laws.{fers_or_plain}
 use Rattle.mailbox.specs.Told.{mailbox_elim}
-use Rattle.mailbox.specs.Mailbox.{refused, fers_of, partition_in, accepted, done_of, reply_of}
+use Rattle.mailbox.specs.Mailbox.{refused, fers_of, partition_in, accepted, done_of, reply_of, Lent, lent, mailbox_of}
 use Rattle.history.specs.Calls.{Call, Direct, Erase, EraseCut, Mailbox, TakeReply, MakeTable, Restart, Erasing, Replying, told, refusal}
-use Rattle.history.specs.Refused.{reply_number, direct_stays, reply_stays, making_stays}
+use Rattle.mailbox.specs.declared.Reply.{Reply}
+use Rattle.history.specs.Refused.{reply_number, number_told, direct_stays, reply_stays, making_stays}
 
 -- ---- the claim
 
@@ -140,8 +141,13 @@ fifteen image marks s (EraseCut j k mask) = record {
   only = λ z. (j, (refl, cut_later image marks s j k mask z));
 }
 fifteen image marks s (Mailbox code request response block) = record {
-  exactly = λ i e. rw (e.0, ← e.1) (mailbox_exactly image marks s request (length response) (length block));
-  only = λ z. (partition_in request, (only_fers image marks s code request (length response) (length block) z, refl));
+  exactly = λ i e.
+  let fers : Outcome Reply Lent = mailbox_of image marks (code_of Fers) request (lent s response block) in
+  rw (e.0, ← e.1)
+  (subst (λ (n : ℕ). NoOther n → (n ≡ 15) ↔ NoneSet image s.cells marks (partition_in request)) (sym (number_told fers))
+  (mailbox_exactly image marks s request (length response) (length block)));
+  only = λ z. (partition_in request, (only_fers image marks s code request (length response) (length block)
+  (sym (number_told (mailbox_of image marks code request (lent s response block))) ∙ z), refl));
 }
 fifteen image marks s (TakeReply reply) = record {
   exactly = λ i e. absurd e;

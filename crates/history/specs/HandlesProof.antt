@@ -1,6 +1,6 @@
 -- Request P6, the theorem of `Handles`: what each call makes of the table, and what every list of calls keeps. Assumes nothing.
 use Rattle.std.specs.Prelude.{ℕ, ◌^◌, ◌≤◌, ◌<◌, ◌≡◌, refl, Bool, true, false, cond, List, [], ◌∷◌, ◌++◌, eqb, length, get_or, take, drop}
-use Rattle.std.proofs.Common.{sym, ap, ◌∙◌, ⊎_elim, append-nil, arith, take_at, eqb-true, ne_eqb}
+use Rattle.std.proofs.Common.{sym, ap, subst, ◌∙◌, ⊎_elim, append-nil, arith, take_at, eqb-true, ne_eqb}
 use Rattle.std.proofs.lemmas.Bool.{false≢true, eqb-false, not-false}
 use Rattle.laws.specs.Tests.{decided, not_yes, cond_keeps}
 use Rattle.laws.specs.Refusals.{test_at}
@@ -96,7 +96,10 @@ module _ (numbers before : List ℕ) (s : SoFar numbers before) where
     given_now : (j : ℕ) → j < (table_of before).count → is_among (handle_at (table_of rotated_now) j) (next ∷ numbers) ≡ true
     given_now j m =
         ⊎_elim
-        (λ (y : eqb j k ≡ true). rw (eqb-true j k y, rotated_handle k next before s.tabled.long l (next_fits (table_of before) left)) (among_here next numbers))
+        (λ (y : eqb j k ≡ true).
+        let new : handle_at (table_of rotated_now) j ≡ next =
+        ap (handle_at (table_of rotated_now)) (eqb-true j k y) ∙ rotated_handle k next before s.tabled.long l (next_fits (table_of before) left) in
+        subst (λ (h : ℕ). is_among h (next ∷ numbers) ≡ true) (sym new) (among_here next numbers))
         (λ (o : eqb j k ≡ false).
         let within : j < most = omega (arith, good_most (table_of before).count s.tabled.counted) in
         rw (rotated_other k next before s.tabled.long l j within (eqb-false j k o)) (among_after next (handle_at (table_of before) j) numbers (s.all_given j m)))

@@ -1,6 +1,6 @@
 -- Demand 1: "a refusal changes nothing", of every entry point and every number. Document 01 had one exception, 15, which left its indicator
 -- burned; since request P4 it has nothing to leave, and `Fifteen` says when it is given. Assumes nothing.
-use Rattle.std.specs.Prelude.{ℕ, suc, ◌-◌, ◌≤◌, ◌<◌, ◌≡◌, Bool, true, false, List, [], length, eqb}
+use Rattle.std.specs.Prelude.{ℕ, suc, ◌-◌, ◌≤◌, ◌<◌, ◌≡◌, Bool, true, false, List, [], length, eqb, take}
 use Rattle.std.proofs.Math.Path.{refl}
 use Rattle.std.proofs.Common.{sym, ap, subst, ⊎_elim, arith, ne_eqb, leb-false}
 use Rattle.std.proofs.lemmas.Bool.{not-false}
@@ -35,7 +35,7 @@ use Rattle.mailbox.specs.declared.Reply.{Reply}
 use Rattle.mailbox.specs.declared.Reply.TheVariants.{Refused, Accepted}
 use Rattle.mailbox.specs.Laws.{is_refused, fers_or_plain}
 use Rattle.mailbox.specs.Told.{mailbox_elim}
-use Rattle.mailbox.specs.Mailbox.{fers_of, partition_in, accepted, own_tests, done_of, reply_of, state_after, response_after, block_after, Lent, mailbox_of}
+use Rattle.mailbox.specs.Mailbox.{fers_of, partition_in, accepted, own_tests, done_of, reply_of, state_after, response_after, block_after, Lent, lent, mailbox_of}
 use Rattle.handles.specs.declared.Answer.{Answer as TableAnswer}
 use Rattle.handles.specs.Making.{making_of}
 use Rattle.handles.specs.Laws.{making_elim}
@@ -44,7 +44,7 @@ use Rattle.reply.specs.declared.Answer.{Answer as ReplyAnswer}
 use Rattle.reply.specs.Reply.{taking_of}
 use Rattle.reply.specs.Laws.{reply_elim}
 use Rattle.history.specs.Calls.{Call, Direct, Erase, EraseCut, Mailbox, TakeReply, MakeTable, Restart}
-use Rattle.history.specs.Calls.{Answering, Erasing, Replying, Taking, Making, replying, told, refusal, after}
+use Rattle.history.specs.Calls.{Answering, Erasing, Replying, Taking, Making, length_in, replying, told, refusal, after}
 
 -- of a call that is refused: the state stays
 abbrev pub Unchanged : (image marks : List ℕ) → Call → State → Type 0
@@ -71,6 +71,14 @@ reply_number e n =
 
 has_number : (e : Effect) → 1 ≤ refusal (Replying (reply_of e) []) → e.refusal ≡ 0 → ⊥
 has_number e l z = let q = reply_number e (refusal (Replying (reply_of e) []) - 1) (omega arith) in omega (arith, q)
+
+-- and its number is the same whatever bytes stand beside it
+number_of_reply : (r : Reply) (bytes : List ℕ) → refusal (Replying r bytes) ≡ refusal (Replying r [])
+number_of_reply (Refused number) bytes = refl
+number_of_reply (Accepted length order) bytes = refl
+
+pub number_told : (o : Outcome Reply Lent) → refusal (replying o).told ≡ refusal (Replying o.told [])
+number_told o = number_of_reply o.told (take (length_in o.told) o.after.response)
 
 module _ (image marks : List ℕ) (s : State) where
   -- a refused direct command leaves the state, and 15 is none of its refusals
@@ -158,7 +166,10 @@ module _ (image marks : List ℕ) (s : State) where
   refused_unchanged (Direct command) = λ l. (direct_stays command l).0
   refused_unchanged (Erase i) = λ l. (erase_stays i never 0 l).0
   refused_unchanged (EraseCut i k mask) = λ l. let both = erase_stays i k mask l in rw both.1 both.0
-  refused_unchanged (Mailbox code request response block) = mailbox_stays code request (length response) (length block)
+  refused_unchanged (Mailbox code request response block) =
+      λ l.
+      mailbox_stays code request (length response) (length block)
+      (subst (λ (n : ℕ). 1 ≤ n) (number_told (mailbox_of image marks code request (lent s response block))) l)
   refused_unchanged (TakeReply reply) = λ l. (reply_stays reply l).0
   refused_unchanged (MakeTable handles algorithms) = λ l. (making_stays handles algorithms l).0
   refused_unchanged Restart = λ l. absurd (omega arith)
@@ -168,7 +179,7 @@ pub refused_buffers : (image marks : List ℕ) (code : ℕ) (request : List ℕ)
     1 ≤ refusal (replying o).told → (o.after.response ≡ l.response) × (o.after.block ≡ l.block)
 refused_buffers image marks code request l r =
     let e = (done_of image marks code request (length l.response) (length l.block) l.state).told in
-    let o = has_number e r in
+    let o = has_number e (subst (λ (n : ℕ). 1 ≤ n) (number_told (mailbox_of image marks code request l)) r) in
     subst (λ (x : Effect). (response_after x l.response ≡ l.response) × (block_after x.order x.tag request l.block ≡ l.block))
     (sym (is_refused image marks code request l refl o))
     (rw (ne_eqb e.refusal 0 o), refl)

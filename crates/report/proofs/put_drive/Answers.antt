@@ -18,10 +18,10 @@ pub read_cells-requires : goal.read_cells-requires
 read_cells-requires c = let t = told (goal.at.read_cells-requires c).After-read_header-header in omega arith
 
 pub slice_bounds-numbers-end : goal.slice_bounds-numbers-end
-slice_bounds-numbers-end c = let t = told (goal.at.slice_bounds-numbers-end c).After-read_header-header in omega (arith, c.read_cells.auto.1.1.1.0)
+slice_bounds-numbers-end c = let t = told (goal.at.slice_bounds-numbers-end c).After-read_header-header in omega (arith, c.read_cells.auto.cells)
 
 pub slice_bounds-put_output-end : goal.slice_bounds-put_output-end
-slice_bounds-put_output-end c = let t = told (goal.at.slice_bounds-put_output-end c).After-read_header-header in simp length-take (omega (arith, c.read_cells.auto.1.1.1.0))
+slice_bounds-put_output-end c = let t = told (goal.at.slice_bounds-put_output-end c).After-read_header-header in simp length-take (omega (arith, c.read_cells.auto.cells))
 
 -- the cells that were read are the input's
 read : (c : After-numbers-3-1) → take c.read_header-header.result.cells c.read_cells.new.cells ≡ input_cells c.args.input.now

@@ -8,26 +8,21 @@ use Rattle.plan.specs.declared.Answer.TheVariants.{Refused}
 use Rattle.plan.specs.Writing.{writing_of}
 use Rattle.report.specs.Maps.{part, image_told, number_most, refusal_told}
 use Rattle.report.proofs.report_map.Goals as goal
-use Rattle.report.proofs.report_map.Goals.{In-Refused-2}
 
 pub slice_bounds-write_map-end-2 : goal.slice_bounds-write_map-end-2
 slice_bounds-write_map-end-2 c = simp length-take (omega (arith, c.requires))
 
--- the text was refused
-refused : (c : In-Refused-2) → let args = c.args in
-    outcome (Refused c.number-1.given.0.0) c.write_map.new.out ≡ writing_of args.input.now (part args.out.now)
-refused c =
-    ap (λ (a : Answer). outcome a c.write_map.new.out) (sym c.number-1.given.1) ∙ c.write_map.ensures
-
 pub overflow_cast-number : goal.overflow_cast-number
 overflow_cast-number c =
     let after = c.write_map.new.out in
-    omega (arith, number_most c.args.input.now c.args.out.now c.requires _ after (refused (goal.at.overflow_cast-number c).In-Refused-2))
+    omega (arith, number_most c.args.input.now c.args.out.now c.requires _ after (ap (λ (a : Answer). outcome a after) (sym c.in-Refused.is) ∙ c.write_map.ensures))
 
 pub returns-in-Written : goal.returns-in-Written
 returns-in-Written c =
     image_told _ _ c.requires _ _
-    (ap (λ (a : Answer). outcome a c.write_map.new.out) (sym c.bytes-1.given.1) ∙ c.write_map.ensures)
+    (ap (λ (a : Answer). outcome a c.write_map.new.out) (sym c.in-Written.is) ∙ c.write_map.ensures)
 
 pub returns-in-Refused : goal.returns-in-Refused
-returns-in-Refused c = refusal_told _ _ c.requires _ _ (refused (goal.at.returns-in-Refused c).In-Refused-2) c.put_refused.ensures
+returns-in-Refused c =
+    refusal_told _ _ c.requires _ _ (ap (λ (a : Answer). outcome a c.write_map.new.out) (sym c.in-Refused.is) ∙ c.write_map.ensures)
+    c.put_refused.ensures
