@@ -102,7 +102,9 @@ module _ (numbers before : List ℕ) (s : SoFar numbers before) where
         subst (λ (h : ℕ). is_among h (next ∷ numbers) ≡ true) (sym new) (among_here next numbers))
         (λ (o : eqb j k ≡ false).
         let within : j < most = omega (arith, good_most (table_of before).count s.tabled.counted) in
-        rw (rotated_other k next before s.tabled.long l j within (eqb-false j k o)) (among_after next (handle_at (table_of before) j) numbers (s.all_given j m)))
+        let old : handle_at (table_of rotated_now) j ≡ handle_at (table_of before) j =
+        rotated_other k next before s.tabled.long l j within (eqb-false j k o) in
+        subst (λ (h : ℕ). is_among h (next ∷ numbers) ≡ true) (sym old) (among_after next (handle_at (table_of before) j) numbers (s.all_given j m)))
         (decided (eqb j k))
 
     above_now : (number : ℕ) → is_among number (next ∷ numbers) ≡ true → number ≤ next
