@@ -1,5 +1,5 @@
 -- Request P6, the theorem of `Handles`: what each call makes of the table, and what every list of calls keeps. Assumes nothing.
-use Rattle.std.specs.Prelude.{ℕ, ◌^◌, ◌≤◌, ◌<◌, ◌≡◌, refl, Bool, true, false, cond, List, [], ◌∷◌, ◌++◌, eqb, length, get_or, take, drop}
+use Rattle.std.specs.Prelude.{ℕ, ◌%◌, ◌^◌, ◌≤◌, ◌<◌, ◌≡◌, refl, Bool, true, false, cond, List, [], ◌∷◌, ◌++◌, eqb, length, get_or, take, drop}
 use Rattle.std.proofs.Common.{sym, ap, subst, ◌∙◌, ⊎_elim, append-nil, arith, take_at, eqb-true, ne_eqb}
 use Rattle.std.proofs.lemmas.Bool.{false≢true, eqb-false, not-false}
 use Rattle.laws.specs.Tests.{decided, not_yes, cond_keeps}
@@ -103,7 +103,7 @@ module _ (numbers before : List ℕ) (s : SoFar numbers before) where
         (λ (o : eqb j k ≡ false).
         let within : j < most = omega (arith, good_most (table_of before).count s.tabled.counted) in
         let old : handle_at (table_of rotated_now) j ≡ handle_at (table_of before) j =
-        rotated_other k next before s.tabled.long l j within (eqb-false j k o) in
+        ap (λ (entry : ℕ). entry % 2 ^ 32) (rotated_other k next before s.tabled.long l j within (eqb-false j k o)) in
         subst (λ (h : ℕ). is_among h (next ∷ numbers) ≡ true) (sym old) (among_after next (handle_at (table_of before) j) numbers (s.all_given j m)))
         (decided (eqb j k))
 
