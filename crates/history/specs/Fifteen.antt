@@ -142,12 +142,18 @@ fifteen image marks s (EraseCut j k mask) = record {
 }
 fifteen image marks s (Mailbox code request response block) = record {
   exactly = λ i e.
-  let fers : Outcome Reply Lent = mailbox_of image marks (code_of Fers) request (lent s response block) in
-  rw (e.0, ← e.1)
-  (subst (λ (n : ℕ). NoOther n → (n ≡ 15) ↔ NoneSet image s.cells marks (partition_in request)) (sym (number_told fers))
-  (mailbox_exactly image marks s request (length response) (length block)));
-  only = λ z. (partition_in request, (only_fers image marks s code request (length response) (length block)
-  (sym (number_told (mailbox_of image marks code request (lent s response block))) ∙ z), refl));
+      let fers : Outcome Reply Lent = mailbox_of image marks (code_of Fers) request (lent s response block) in
+      rw (e.0, ← e.1)
+      (subst (λ (n : ℕ). NoOther n → (n ≡ 15) ↔ NoneSet image s.cells marks (partition_in request)) (sym (number_told fers))
+      (mailbox_exactly image marks s request (length response) (length block)));
+  only = λ z. (
+    partition_in request,
+    (
+      only_fers image marks s code request (length response) (length block)
+          (sym (number_told (mailbox_of image marks code request (lent s response block))) ∙ z),
+      refl,
+    ),
+  );
 }
 fifteen image marks s (TakeReply reply) = record {
   exactly = λ i e. absurd e;

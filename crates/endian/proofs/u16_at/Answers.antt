@@ -15,5 +15,5 @@ returns-then-k-bytes c = omega arith
 pub returns : goal.returns
 returns c =
     let past : length c.args.bytes.now ≤ c.args.k + 1 =
-        elim c.if-bytes-ge2.branch [ then-bytes-ge2+else-k-bytes w ↦ omega arith | else-bytes-ge2 w ↦ omega arith ] in
+    elim c.if-bytes-ge2.branch [ then-bytes-ge2+else-k-bytes w ↦ omega arith | else-bytes-ge2 w ↦ omega arith ] in
     c.widened-2.ensures.0 ∙ c.byte_at.ensures ∙ sym (low_u16 _ _ past)

@@ -27,13 +27,12 @@ pub returns-then-not-entry_good : goal.returns-then-not-entry_good
 returns-then-not-entry_good c = sym (all_fails _ _ _ c.loop-i-test.true (sym (judged (goal.at.returns-then-not-entry_good c).After-entry_good) ∙ c.if-not-entry_good.true))
 
 pub loop-i-preserved : goal.loop-i-preserved
-loop-i-preserved c =
-    (
-      omega arith,
-      omega (arith, c.loop-i.invariant.1),
-      c.end_of-end.ensures
+loop-i-preserved c = (
+  omega arith,
+  omega (arith, c.loop-i.invariant.1),
+  c.end_of-end.ensures
       ∙ ap end_of
       (c.entry_at-x.ensures ∙ entry_own _ _ ∙ ap (entry_at _) (c.loop-i.invariant.1 ∙ ap (λ (h : Header). h.offset + 8 * c.loop-i.i) c.requires.0))
       ∙ sym (end_next _ _),
-      all_step _ _ c.loop-i.invariant.3 (sym (judged (goal.at.loop-i-preserved c).After-entry_good) ∙ c.if-not-entry_good.false),
-    )
+  all_step _ _ c.loop-i.invariant.3 (sym (judged (goal.at.loop-i-preserved c).After-entry_good) ∙ c.if-not-entry_good.false),
+)

@@ -42,14 +42,14 @@ loop-k-preserved c =
     let more = read_more t loop.k c.loop-k-test.true in
     let far : loop.k + 1 ≤ length t = omega (arith, c.loop-k-test.true) in
     elim c.if-is_digit.branch [
-    then-is_digit+else-value-gt-MOST w ↦
-    let here = sym c.is_digit.ensures ∙ w.if-is_digit.true in
-    let stands = digit_stands loop.count loop.value loop.numbers byte s _ loop.invariant.3 here w.longer_by-value.ensures w.if-value-gt-MOST.false in
-    rw (w.numbers-is, w.count-is, w.value-is, more) (far, omega (arith, loop.invariant.1), loop.invariant.2, stands)
-    | else-is_digit+else-value-c w ↦
-    let here = sym c.is_digit.ensures ∙ w.if-is_digit.false in
-    let end = ended loop.value byte loop.count (rw w.byte_after.ensures at w.if-value-c.false) in
-    let stands = end_stands loop.count loop.value loop.numbers byte s loop.invariant.2 loop.invariant.3 here end.0 end.1 in
-    let long = kept_length loop.numbers loop.count loop.value ∙ loop.invariant.2 in
-    rw (w.numbers-is, w.count-is, w.value-is, more, w.keep.ensures) (far, omega (arith, loop.invariant.1), long, stands)
+      | then-is_digit+else-value-gt-MOST w ↦
+          let here = sym c.is_digit.ensures ∙ w.if-is_digit.true in
+          let stands = digit_stands loop.count loop.value loop.numbers byte s _ loop.invariant.3 here w.longer_by-value.ensures w.if-value-gt-MOST.false in
+          rw (w.numbers-is, w.count-is, w.value-is, more) (far, omega (arith, loop.invariant.1), loop.invariant.2, stands)
+      | else-is_digit+else-value-c w ↦
+          let here = sym c.is_digit.ensures ∙ w.if-is_digit.false in
+          let end = ended loop.value byte loop.count (rw w.byte_after.ensures at w.if-value-c.false) in
+          let stands = end_stands loop.count loop.value loop.numbers byte s loop.invariant.2 loop.invariant.3 here end.0 end.1 in
+          let long = kept_length loop.numbers loop.count loop.value ∙ loop.invariant.2 in
+          rw (w.numbers-is, w.count-is, w.value-is, more, w.keep.ensures) (far, omega (arith, loop.invariant.1), long, stands)
     ]

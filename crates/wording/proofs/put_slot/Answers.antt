@@ -4,8 +4,7 @@ use Rattle.laws.specs.Put.{then}
 use Rattle.wording.proofs.put_slot.Goals as goal
 
 pub returns : goal.returns
-returns c =
-    (
-      then (then c.put_numbered-at.ensures.0 c.put-at.ensures) c.put.ensures,
-      omega (arith, c.put_numbered-at.ensures.1, c.put-at.ensures.is_next, c.put.ensures.is_next),
-    )
+returns c = (
+  then (then c.put_numbered-at.ensures.0 c.put-at.ensures) c.put.ensures,
+  omega (arith, c.put_numbered-at.ensures.1, c.put-at.ensures.is_next, c.put.ensures.is_next),
+)
