@@ -25,7 +25,7 @@ use Rattle.mailbox.specs.Told.{mailbox_elim}
 use Rattle.mailbox.specs.Mailbox.{refused, fers_of, partition_in, accepted, done_of, reply_of, Lent, lent, mailbox_of}
 use Rattle.history.specs.Calls.{Call, Direct, Erase, EraseCut, Mailbox, TakeReply, MakeTable, Restart, Erasing, Replying, told, refusal}
 use Rattle.mailbox.specs.declared.Reply.{Reply}
-use Rattle.history.specs.Refused.{reply_number, number_told, direct_stays, reply_stays, making_stays}
+use Rattle.history.specs.Refused.{reply_number, replying_number, direct_stays, reply_stays, making_stays}
 
 -- ---- the claim
 
@@ -144,13 +144,13 @@ fifteen image marks s (Mailbox code request response block) = record {
   exactly = λ i e.
       let fers : Outcome Reply Lent = mailbox_of image marks (code_of Fers) request (lent s response block) in
       rw (e.0, ← e.1)
-      (subst (λ (n : ℕ). NoOther n → (n ≡ 15) ↔ NoneSet image s.cells marks (partition_in request)) (sym (number_told fers))
+      (subst (λ (n : ℕ). NoOther n → (n ≡ 15) ↔ NoneSet image s.cells marks (partition_in request)) (sym (replying_number fers))
       (mailbox_exactly image marks s request (length response) (length block)));
   only = λ z. (
     partition_in request,
     (
       only_fers image marks s code request (length response) (length block)
-          (sym (number_told (mailbox_of image marks code request (lent s response block))) ∙ z),
+          (sym (replying_number (mailbox_of image marks code request (lent s response block))) ∙ z),
       refl,
     ),
   );

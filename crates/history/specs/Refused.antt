@@ -77,8 +77,8 @@ number_of_reply : (r : Reply) (bytes : List ℕ) → refusal (Replying r bytes) 
 number_of_reply (Refused number) bytes = refl
 number_of_reply (Accepted length order) bytes = refl
 
-pub number_told : (o : Outcome Reply Lent) → refusal (replying o).told ≡ refusal (Replying o.told [])
-number_told o = number_of_reply o.told (take (length_in o.told) o.after.response)
+pub replying_number : (o : Outcome Reply Lent) → refusal (replying o).told ≡ refusal (Replying o.told [])
+replying_number o = number_of_reply o.told (take (length_in o.told) o.after.response)
 
 module _ (image marks : List ℕ) (s : State) where
   -- a refused direct command leaves the state, and 15 is none of its refusals
@@ -169,7 +169,7 @@ module _ (image marks : List ℕ) (s : State) where
   refused_unchanged (Mailbox code request response block) =
       λ l.
       mailbox_stays code request (length response) (length block)
-      (subst (λ (n : ℕ). 1 ≤ n) (number_told (mailbox_of image marks code request (lent s response block))) l)
+      (subst (λ (n : ℕ). 1 ≤ n) (replying_number (mailbox_of image marks code request (lent s response block))) l)
   refused_unchanged (TakeReply reply) = λ l. (reply_stays reply l).0
   refused_unchanged (MakeTable handles algorithms) = λ l. (making_stays handles algorithms l).0
   refused_unchanged Restart = λ l. absurd (omega arith)
@@ -179,7 +179,7 @@ pub refused_buffers : (image marks : List ℕ) (code : ℕ) (request : List ℕ)
     1 ≤ refusal (replying o).told → (o.after.response ≡ l.response) × (o.after.block ≡ l.block)
 refused_buffers image marks code request l r =
     let e = (done_of image marks code request (length l.response) (length l.block) l.state).told in
-    let o = has_number e (subst (λ (n : ℕ). 1 ≤ n) (number_told (mailbox_of image marks code request l)) r) in
+    let o = has_number e (subst (λ (n : ℕ). 1 ≤ n) (replying_number (mailbox_of image marks code request l)) r) in
     subst (λ (x : Effect). (response_after x l.response ≡ l.response) × (block_after x.order x.tag request l.block ≡ l.block))
     (sym (is_refused image marks code request l refl o))
     (rw (ne_eqb e.refusal 0 o), refl)
