@@ -5,11 +5,11 @@ use std::path::Path;
 const ARCHIVE: &str = "libsciambrunola.a";
 
 fn main() {
-    let directory = Path::new(env!("CARGO_MANIFEST_DIR")).join("../../target/staticlib");
+    let directory = Path::new(env!("CARGO_MANIFEST_DIR")).join("../../crates/sciambrunola/out");
     let archive = directory.join(ARCHIVE);
     assert!(
         archive.is_file(),
-        "{} is missing: `rt staticlib sciambrunola` makes it, in the directory target/staticlib",
+        "{} is missing: `rt lib` makes it, run in the directory crates/sciambrunola",
         archive.display()
     );
     println!("cargo:rerun-if-changed={}", archive.display());

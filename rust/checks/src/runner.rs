@@ -20,12 +20,12 @@ pub fn in_repository(path: &str) -> PathBuf {
 
 /// The path of the proved archive.
 pub fn archive() -> PathBuf {
-    in_repository("target/staticlib/libsciambrunola.a")
+    in_repository("crates/sciambrunola/out/libsciambrunola.a")
 }
 
 /// The path of a proved program, `status`, `why` or `make_map`.
 pub fn program(name: &str) -> PathBuf {
-    let program = in_repository("target/bin").join(name);
+    let program = in_repository("crates").join(name).join("out").join(name);
     assert!(program.is_file(), "{} is missing: build it before these tests", program.display());
     program
 }

@@ -23,14 +23,15 @@ fn read(path: &str) -> String {
     fs::read_to_string(in_repository(path)).unwrap_or_else(|error| panic!("{path}: {error}"))
 }
 
-/// A file, or every file below a folder but those below a `target`.
+/// A file, or every file below a folder but those below a `target` or an `out`, which are built.
 fn files(path: &Path) -> Vec<PathBuf> {
     if !path.is_dir() {
         return vec![path.to_path_buf()];
     }
     let entries = fs::read_dir(path).expect("a folder can be read");
     let paths = entries.map(|entry| entry.expect("its entries too").path());
-    paths.filter(|path| !path.ends_with("target")).flat_map(|path| files(&path)).collect()
+    let is_built = |path: &PathBuf| path.ends_with("target") || path.ends_with("out");
+    paths.filter(|path| !is_built(path)).flat_map(|path| files(&path)).collect()
 }
 
 /// The words of a text: names of Rattle, antt, Rust and C, whole.
@@ -54,7 +55,7 @@ fn prose(document: &str) -> impl Iterator<Item = (usize, &str)> {
     })
 }
 
-/// Where names come from. Of a document itself its path counts, and nothing else.
+/// Where names come from. Of a document itself, and of a patch, its path counts, and nothing else.
 const SOURCES: [&str; 9] =
     [".ci", "bench", "crates", "docs", "drives", "examples", "include", "rust", "crates.txt"];
 
@@ -68,7 +69,7 @@ fn every_name_in_the_documents_exists() {
     for path in SOURCES.iter().flat_map(|source| files(&in_repository(source))) {
         let name = path.to_string_lossy();
         known.extend(words(&name).map(str::to_string));
-        if !name.ends_with(".md") {
+        if !name.ends_with(".md") && !name.ends_with(".patch") {
             let bytes = fs::read(&path).expect("a source can be read");
             known.extend(words(&String::from_utf8_lossy(&bytes)).map(str::to_string));
         }
