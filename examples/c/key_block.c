@@ -7,9 +7,9 @@
  * a line or two; one that fails ends the program with a failing status. main, at the end,
  * tells the story; the mailbox and the engine are in mailbox.c.
  *
- * From the root of the repository, once the archive is built:
+ * From the root of the repository, once the archive is built and there is a folder target:
  *   cc -std=c99 -I include examples/c/key_block.c examples/c/mailbox.c \
- *     target/staticlib/libsciambrunola.a -o target/key_block
+ *     crates/sciambrunola/out/libsciambrunola.a -o target/key_block
  *   target/key_block
  * Arguments are stuck marks for cells 1 and 5, in hexadecimal. With 0F word 0 gets 60
  * of its 64 ones, which is enough; with 1F it gets 59, and the slot is not erased. With
