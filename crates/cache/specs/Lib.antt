@@ -1,4 +1,3 @@
 pub mod After
 pub mod Cache
-pub mod Laws
 pub mod Vectors

@@ -7,7 +7,8 @@ use Rattle.std.proofs.lemmas.Bool.{false≢true}
 use Rattle.std.proofs.Math.Dec.{ltb}
 use borrow.Author.Tests.{ltb-true, ltb-false}
 use Rattle.laws.specs.Tests.{decided, not_yes}
-use Rattle.laws.specs.Below.{First, first_tells, first_is}
+use Rattle.laws.specs.Below.{First}
+use Rattle.laws.proofs.Below.{first_tells, first_is}
 use Rattle.map.specs.Map.{header_of, entry_of, slot}
 use Rattle.partition.specs.declared.State.{State}
 use Rattle.partition.specs.declared.State.TheVariants.{Erased, Torn, Blank, Programmed}

@@ -7,17 +7,18 @@ use Rattle.std.proofs.Math.Bool.{cond}
 use mathlib.Core.List.{List, ◌++◌}
 use borrow.Author.Tests.{ltb-true, ltb-false, eqb-true, lt-ltb, le-ltb, not-false}
 use Rattle.laws.specs.Tests.{and, decided}
-use Rattle.laws.specs.Below.{First, first_tells, first_same, count_le, tally_le}
+use Rattle.laws.specs.Below.{First}
+use Rattle.laws.proofs.Below.{first_tells, first_same, count_le, tally_le}
 use Rattle.laws.specs.Refusals.{first_of, test_at, refusal_at, Past, refused_at, past_all, first_elim, first_both}
 use Rattle.map.specs.declared.Header.{Header}
 use Rattle.map.specs.declared.Entry.{Entry}
 use Rattle.map.specs.Map.{header_of, entry_of, zeroizable, slot, map_good}
-use Rattle.map.specs.Laws.{map_header, map_entry}
+use Rattle.map.proofs.Laws.{map_header, map_entry}
 use Rattle.partition.specs.declared.State.{State}
 use Rattle.partition.specs.declared.State.TheVariants.{Erased}
 use Rattle.partition.specs.declared.Survey.{Survey}
 use Rattle.partition.specs.Partition.{pairs, short_at, short_pairs, counted, marked, survey_of}
-use Rattle.partition.specs.Marked.{erased_shorts}
+use Rattle.partition.proofs.Marked.{erased_shorts}
 use Rattle.cache.specs.Cache.{cache_of, has_place}
 use Rattle.cache.specs.declared.Sought.TheVariants.{Occupied}
 use Rattle.drive.specs.declared.Terms.{Terms}

@@ -1,4 +1,3 @@
 pub mod Fuse
-pub mod Burn
 pub mod Charge
 pub mod Vectors

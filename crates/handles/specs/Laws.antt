@@ -5,7 +5,7 @@ use Rattle.std.proofs.Common.{ap, subst, inl, inr, arith, lt-ltb, le-ltb, ltb-tr
 use mathlib.Core.List.{List, [], ◌∷◌, ◌++◌}
 use Rattle.std.proofs.lemmas.Bool.{not-false}
 use Rattle.laws.specs.Tests.{and}
-use Rattle.laws.specs.Below.{first_tells, first_least}
+use Rattle.laws.proofs.Below.{first_tells, first_least}
 use Rattle.laws.specs.Refusals.{first_of, number_of, number_refuses, number_passes, Accepted, test_at, refusal_at, Past, refused_at, past_all, first_elim, Applies}
 use Rattle.context.specs.Context.{count_at, entries_at, greatest_at}
 use Rattle.context.specs.Laws.{part_at}

@@ -1,4 +1,3 @@
 pub mod Partition
 pub mod Laws
-pub mod Marked
 pub mod Vectors

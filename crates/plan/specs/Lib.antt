@@ -4,9 +4,7 @@ pub mod Writing
 pub mod Laws
 pub mod Steps
 pub mod Images
-pub mod Fields
 pub mod Answers
 pub mod Valid
 pub mod Exactly
-pub mod Longest
 pub mod Vectors

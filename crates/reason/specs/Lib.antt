@@ -1,4 +1,3 @@
 pub mod Reason
-pub mod Laws
 pub mod Exactly
 pub mod Vectors

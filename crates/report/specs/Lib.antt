@@ -2,5 +2,4 @@ pub mod Status
 pub mod Report
 pub mod Laws
 pub mod Maps
-pub mod Longer
 pub mod Vectors

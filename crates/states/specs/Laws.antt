@@ -1,7 +1,8 @@
 -- The laws of a listing: one partition stored after the other, and what is answered by each answer of the drive's check. Assumes nothing.
 use Rattle.std.specs.Prelude.{ℕ, ◌+◌, ◌<◌, ◌≡◌, refl, List, [], ◌++◌, length, drop, set}
 use Rattle.std.proofs.Common.{sym, arith}
-use Rattle.laws.specs.Below.{join_below, store_next}
+use Rattle.laws.specs.Below.{join_below}
+use Rattle.laws.proofs.Below.{store_next}
 use Rattle.laws.specs.Refusals.{first_elim, GivenFirst, given_first, GivenLowest, lowest_tells}
 use Rattle.context.specs.State.{Outcome, outcome, refusing}
 use Rattle.map.specs.Map.{header_of}

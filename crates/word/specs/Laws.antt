@@ -10,13 +10,14 @@ use native.Mathlib.Omega.{arith}
 use Rattle.std.proofs.Math.Dec.{ltb}
 use borrow.Author.Tests.{leb-true, ltb-true, ltb-false, eqb-true, eqb-false, lt-ltb, le-ltb, le-leb}
 use Rattle.laws.specs.Tests.{decided, not_yes, cond_keeps, and}
-use Rattle.laws.specs.Below.{first_tells, first_is}
+use Rattle.laws.proofs.Below.{first_tells, first_is}
 use Rattle.map.specs.declared.Header.{Header}
 use Rattle.map.specs.declared.Entry.{Entry}
 use Rattle.map.specs.Map.{header_of, entry_of, end_of, end_before, software, zeroizable, secret, map_good}
 use Rattle.fuse.specs.Fuse.{cells_in}
 use Rattle.partition.specs.Partition.{tail}
-use Rattle.map.specs.Laws.{EntryRules, map_entry, map_order}
+use Rattle.map.specs.Laws.{EntryRules}
+use Rattle.map.proofs.Laws.{map_entry, map_order}
 use Rattle.word.specs.declared.Role.{Role}
 use Rattle.word.specs.declared.Role.TheVariants.{Data, Digest, Indicator}
 use Rattle.word.specs.declared.Lookup.{Lookup}

@@ -1,3 +1,2 @@
 pub mod Wording
-pub mod Laws
 pub mod Vectors

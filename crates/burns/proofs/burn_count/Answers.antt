@@ -1,5 +1,5 @@
 -- `burns::burn_count` meets its contract: the data words, indicator and digest. Assumes nothing.
-use Rattle.burns.specs.Turns.{count_cells, count_pairs}
+use Rattle.burns.proofs.Turns.{count_cells, count_pairs}
 use Rattle.burns.proofs.burn_count.Goals as goal
 
 pub returns-then-software : goal.returns-then-software

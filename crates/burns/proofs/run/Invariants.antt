@@ -6,9 +6,10 @@ use mathlib.Core.List.{List}
 use native.Mathlib.Omega.{arith}
 use lib.ListN.{length}
 use borrow.Author.Tests.{not-true, not-false}
-use Rattle.fuse.specs.Charge.{new_most}
+use Rattle.fuse.proofs.Charge.{new_most}
 use Rattle.burns.specs.Run.{order, tally_of}
-use Rattle.burns.specs.Turns.{Running, first_cut, first_stops, first_goes, data_goes, last_turn, order_fewer, order_two, data_within}
+use Rattle.burns.specs.Turns.{Running}
+use Rattle.burns.proofs.Turns.{first_cut, first_stops, first_goes, data_goes, last_turn, order_fewer, order_two, data_within}
 use Rattle.burns.proofs.run.Given as goal
 
 -- whatever run stood before the loop, with the indicator burned, stands still

@@ -2,7 +2,7 @@
 use mathlib.Core.Path.{sym}
 use native.Mathlib.Omega.{arith}
 use Rattle.burns.specs.Run.{pair_from}
-use Rattle.burns.specs.Turns.{order_fewer, later_word, later_within}
+use Rattle.burns.proofs.Turns.{order_fewer, later_word, later_within}
 use Rattle.burns.proofs.word_at.Goals as goal
 
 pub place_of-at-requires : goal.place_of-at-requires

@@ -1,7 +1,7 @@
 -- `cache::clear` meets its contract: the places are emptied by the loop, and the awaited reply, the next word, is dropped. Assumes nothing.
 use mathlib.Core.Path.{sym, ◌∙◌}
 use Rattle.cache.specs.Cache.{emptied}
-use Rattle.cache.specs.Laws.{zeros_next, none_dropped}
+use Rattle.cache.proofs.Laws.{zeros_next, none_dropped}
 use Rattle.std.proofs.Common.{rules}
 use Rattle.cache.proofs.clear.Goals as goal
 

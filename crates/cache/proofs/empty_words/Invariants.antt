@@ -4,7 +4,7 @@ use Prim.Native.Nat.{◌≤◌, ◌-◌}
 use mathlib.Core.Path.{◌≡◌, refl}
 use mathlib.Core.List.{◌++◌}
 use native.Mathlib.Omega.{arith}
-use Rattle.cache.specs.Laws.{zeros_next}
+use Rattle.cache.proofs.Laws.{zeros_next}
 use Rattle.cache.proofs.empty_words.Given as goal
 
 abbrev pub invariant-loop-k : goal.invariant-loop-k

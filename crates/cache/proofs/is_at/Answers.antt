@@ -1,6 +1,6 @@
 -- `cache::is_at` meets its contract: by the words of the place. Assumes nothing.
 use mathlib.Core.Path.{◌∙◌}
-use Rattle.cache.specs.Laws.{is_read}
+use Rattle.cache.proofs.Laws.{is_read}
 use Rattle.cache.proofs.is_at.Goals as goal
 
 pub returns : goal.returns

@@ -1,5 +1,5 @@
 -- `cache::put_place` meets its contract: there is no place past 15. Assumes nothing.
-use Rattle.cache.specs.Laws.{placed_in, placed_past}
+use Rattle.cache.proofs.Laws.{placed_in, placed_past}
 use Rattle.cache.proofs.put_place.Goals as goal
 
 pub returns-then-k-lt-PLACES : goal.returns-then-k-lt-PLACES

@@ -3,7 +3,7 @@ use Prim.Native.Nat.{◌≤◌, ◌-◌}
 use mathlib.Core.Path.{◌≡◌, refl}
 use native.Mathlib.Omega.{arith}
 use Rattle.cache.specs.Cache.{turned_below}
-use Rattle.cache.specs.Laws.{turn_next}
+use Rattle.cache.proofs.Laws.{turn_next}
 use Rattle.cache.proofs.turn_places.Goals as goal
 
 pub loop-k-init : goal.loop-k-init

@@ -7,7 +7,7 @@ use lib.ListN.{take}
 use Rattle.laws.specs.Put.{Put, then, nothing, retext}
 use Rattle.endian.specs.Endian.{bytes4}
 use Rattle.codec.specs.Fields.{written, numbers_in}
-use Rattle.codec.specs.Laws.{written_next, written_most}
+use Rattle.codec.proofs.Laws.{written_next, written_most}
 use Rattle.codec.proofs.put_numbers.Given as goal
 
 abbrev pub invariant-loop-k : goal.invariant-loop-k

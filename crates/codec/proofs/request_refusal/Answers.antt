@@ -10,7 +10,7 @@ use Rattle.chksum.specs.Chksum.{request_sum}
 use Rattle.endian.specs.Endian.{u32_at}
 use Rattle.codec.specs.Fields.{known, request_fields, length_of}
 use Rattle.codec.specs.Request.{request_tests}
-use Rattle.codec.specs.Laws.{request_at, request_past}
+use Rattle.codec.proofs.Laws.{request_at, request_past}
 use Rattle.codec.proofs.request_refusal.Goals as goal
 use Rattle.codec.proofs.request_refusal.Goals.{After-asked_bytes, Else-not-is_known, Else-request-asked_bytes, Else-u32_at-request_sum}
 

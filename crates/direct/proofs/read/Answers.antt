@@ -1,7 +1,7 @@
 -- `direct::read` meets its contract: a word of a secret partition is refused, any other shown. Assumes nothing.
 use mathlib.Core.Path.{refl, sym, ◌∙◌}
 use Rattle.direct.specs.Direct.{clears, changes_slot, cells_after, new_after}
-use Rattle.direct.specs.Laws.{read_forbidden, found_is, find_refused, named, word_at_lem, word_carried}
+use Rattle.direct.proofs.Laws.{read_forbidden, found_is, find_refused, named, word_at_lem, word_carried}
 use Rattle.direct.proofs.read.Goals as goal
 
 pub returns-then-is_secret : goal.returns-then-is_secret

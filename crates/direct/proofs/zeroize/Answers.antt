@@ -2,7 +2,7 @@
 use mathlib.Core.Path.{◌≡◌, refl, sym, ◌∙◌}
 use Rattle.direct.specs.declared.Found.TheVariants.{Word}
 use Rattle.direct.specs.Direct.{clears, changes_slot, cells_after, new_after, found_of}
-use Rattle.direct.specs.Laws.{zeroize_forbidden, found_is, find_refused, named, word_at_lem, word_carried}
+use Rattle.direct.proofs.Laws.{zeroize_forbidden, found_is, find_refused, named, word_at_lem, word_carried}
 use Rattle.std.proofs.Common.{rules}
 use Rattle.direct.proofs.zeroize.Goals as goal
 

@@ -1,6 +1,6 @@
 -- `erasure::erase` meets its contract: judged, then run and not cut. Assumes nothing.
 use Rattle.context.specs.State.{state}
-use Rattle.erasure.specs.Laws.{erase_refused, erase_runs, erasable}
+use Rattle.erasure.proofs.Laws.{erase_refused, erase_runs, erasable}
 use Rattle.erasure.proofs.erase.Goals as goal
 
 pub returns-then-number-ne0 : goal.returns-then-number-ne0

@@ -1,7 +1,7 @@
 -- `erasure::erase_cut` meets its contract: judged, then run; the cache is emptied where the erasure was cut. Assumes nothing.
 use mathlib.Core.Path.{refl, sym, ◌∙◌}
 use Rattle.context.specs.State.{state}
-use Rattle.erasure.specs.Laws.{erase_refused, erase_runs, erasable, cut_left, uncut_left}
+use Rattle.erasure.proofs.Laws.{erase_refused, erase_runs, erasable, cut_left, uncut_left}
 use Rattle.erasure.proofs.erase_cut.Goals as goal
 
 pub returns-then-number-ne0 : goal.returns-then-number-ne0

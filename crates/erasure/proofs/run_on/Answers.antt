@@ -1,5 +1,5 @@
 -- `erasure::run_on` meets its contract: the partition's part lies in the arrays, and is put back. Assumes nothing.
-use Rattle.erasure.specs.Laws.{cells_end, marks_end, fits_run, burns_fit, ran_on}
+use Rattle.erasure.proofs.Laws.{cells_end, marks_end, fits_run, burns_fit, ran_on}
 use Rattle.erasure.proofs.run_on.Goals as goal
 
 pub slice_bounds-run-end : goal.slice_bounds-run-end

@@ -6,7 +6,7 @@ use native.Mathlib.Omega.{arith}
 use lib.ListN.{get_or}
 use lib.Count.{ones}
 use Rattle.fuse.specs.Fuse.{burn_cell, new_fuses}
-use Rattle.fuse.specs.Charge.{cell_adds}
+use Rattle.fuse.proofs.Charge.{cell_adds}
 use Rattle.fuse.proofs.burn_cell.Goals as goal
 use Rattle.fuse.proofs.burn_cell.Goals.{After-burned-after}
 

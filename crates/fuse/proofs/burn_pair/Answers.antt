@@ -6,7 +6,8 @@ use lib.ListN.{length-set}
 use lib.Bits.{bit_and, bit_or}
 use lib.Count.{ones}
 use Rattle.fuse.specs.Fuse.{all_ones}
-use Rattle.fuse.specs.Charge.{PairBurned, pair_burned}
+use Rattle.fuse.specs.Charge.{PairBurned}
+use Rattle.fuse.proofs.Charge.{pair_burned}
 use Rattle.fuse.proofs.burn_pair.Goals as goal
 use Rattle.fuse.proofs.burn_pair.Goals.{After-burned_pair-after}
 

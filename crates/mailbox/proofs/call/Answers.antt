@@ -2,7 +2,8 @@
 -- effect leaves it. Assumes nothing.
 use Rattle.context.specs.State.{state}
 use Rattle.mailbox.specs.Mailbox.{lent}
-use Rattle.mailbox.specs.Laws.{Carried, carried, refused_left, carried_left}
+use Rattle.mailbox.specs.Laws.{Carried}
+use Rattle.mailbox.proofs.Laws.{carried, refused_left, carried_left}
 use Rattle.mailbox.proofs.call.Goals as goal
 use Rattle.mailbox.proofs.call.Goals.{Else-effect-ne0}
 

@@ -3,7 +3,7 @@ use mathlib.Core.Path.{sym, ap, ◌∙◌}
 use Rattle.context.specs.State.{state, outcome}
 use Rattle.mailbox.specs.declared.effects.Effect.{Effect}
 use Rattle.drive.specs.Laws.{judged}
-use Rattle.mailbox.specs.Laws.{judged_drive, judged_lent, judged_request, judged_own, judged_passed, judged_done, lent_table, own_allowed}
+use Rattle.mailbox.proofs.Laws.{judged_drive, judged_lent, judged_request, judged_own, judged_passed, judged_done, lent_table, own_allowed}
 use Rattle.mailbox.proofs.effect_of.Goals as goal
 
 pub returns-then-is_lent_bad : goal.returns-then-is_lent_bad

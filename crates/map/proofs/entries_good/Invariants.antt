@@ -4,10 +4,11 @@ use mathlib.Core.Path.{◌≡◌, refl, sym, ap, ◌∙◌}
 use mathlib.Core.Bool.{true}
 use native.Mathlib.Omega.{arith}
 use borrow.Author.Tests.{not-true, not-false}
-use Rattle.laws.specs.Below.{all_below, all_step, all_fails}
+use Rattle.laws.specs.Below.{all_below}
+use Rattle.laws.proofs.Below.{all_step, all_fails}
 use Rattle.map.specs.declared.Header.{Header}
 use Rattle.map.specs.Map.{entry_place, entry_at, end_of, end_before, place_good}
-use Rattle.map.specs.Laws.{end_next, entry_own, spare_own, place_is}
+use Rattle.map.proofs.Laws.{end_next, entry_own, spare_own, place_is}
 use Rattle.map.proofs.entries_good.Given as goal
 
 abbrev pub invariant-loop-i : goal.invariant-loop-i

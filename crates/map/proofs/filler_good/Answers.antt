@@ -2,9 +2,10 @@
 use Prim.Native.Nat.{◌≤◌, ◌-◌}
 use mathlib.Core.Path.{◌≡◌, refl}
 use native.Mathlib.Omega.{arith}
-use Rattle.laws.specs.Below.{all_below, all_next}
+use Rattle.laws.specs.Below.{all_below}
+use Rattle.laws.proofs.Below.{all_next}
 use Rattle.map.specs.Map.{filler_good}
-use Rattle.map.specs.Laws.{filler_is}
+use Rattle.map.proofs.Laws.{filler_is}
 use Rattle.std.proofs.Common.{rules}
 use Rattle.map.proofs.filler_good.Goals as goal
 

@@ -2,7 +2,7 @@
 use mathlib.Core.Path.{sym, ◌∙◌}
 use native.Mathlib.Omega.{arith}
 use borrow.Author.Tests.{not-true, not-false}
-use Rattle.map.specs.Laws.{header_rules, bad_header, bad_filler, good_so_far}
+use Rattle.map.proofs.Laws.{header_rules, bad_header, bad_filler, good_so_far}
 use Rattle.std.proofs.Common.{rules}
 use Rattle.map.proofs.is_good.Goals as goal
 

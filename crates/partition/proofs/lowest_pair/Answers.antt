@@ -2,7 +2,8 @@
 use Prim.Native.Nat.{◌≤◌, ◌-◌}
 use mathlib.Core.Path.{◌≡◌, sym, ◌∙◌}
 use native.Mathlib.Omega.{arith}
-use Rattle.laws.specs.Below.{first_from, first_start, first_here, first_next, first_end}
+use Rattle.laws.specs.Below.{first_from}
+use Rattle.laws.proofs.Below.{first_start, first_here, first_next, first_end}
 use Rattle.partition.specs.Partition.{short_at, lowest_pair}
 use Rattle.partition.proofs.lowest_pair.Goals as goal
 

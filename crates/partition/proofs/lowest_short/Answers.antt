@@ -1,9 +1,9 @@
 -- `partition::lowest_short` meets its contract: by where the search ended. Assumes nothing.
 use mathlib.Core.Path.{◌≡◌, sym}
 use native.Mathlib.Omega.{arith}
-use Rattle.laws.specs.Below.{first_tells}
+use Rattle.laws.proofs.Below.{first_tells}
 use Rattle.partition.specs.Partition.{pairs, short_at, lowest_pair}
-use Rattle.partition.specs.Laws.{lowest_cell, lowest_none}
+use Rattle.partition.proofs.Laws.{lowest_cell, lowest_none}
 use Rattle.partition.proofs.lowest_short.Goals as goal
 
 pub returns-then-j-part : goal.returns-then-j-part

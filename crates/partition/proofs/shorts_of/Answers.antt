@@ -1,6 +1,6 @@
 -- `partition::shorts_of` meets its contract: no lowest where none is short, else the one that was found. Assumes nothing.
 use mathlib.Core.Path.{sym, ◌∙◌}
-use Rattle.partition.specs.Laws.{no_lowest}
+use Rattle.partition.proofs.Laws.{no_lowest}
 use Rattle.partition.proofs.shorts_of.Goals as goal
 
 pub returns-then-count-eq0 : goal.returns-then-count-eq0

@@ -4,8 +4,9 @@ use mathlib.Core.Path.{sym, ◌∙◌}
 use native.Mathlib.Omega.{arith}
 use borrow.Author.Tests.{eqb-true, eqb-false}
 use Rattle.partition.specs.Partition.{pairs}
-use Rattle.partition.specs.Laws.{erased_is, torn_is, blank_is, programmed_is}
-use Rattle.partition.specs.Marked.{marked_tells, besides_by}
+use Rattle.partition.proofs.StateIs.{erased_is}
+use Rattle.partition.proofs.Laws.{torn_is, blank_is, programmed_is}
+use Rattle.partition.proofs.Marked.{marked_tells, besides_by}
 use Rattle.partition.proofs.survey_cells.Goals as goal
 use Rattle.partition.proofs.survey_cells.Goals.{Then-is_marked}
 

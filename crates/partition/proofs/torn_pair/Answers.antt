@@ -3,7 +3,7 @@
 use Prim.Native.Nat.{◌+◌, ◌*◌, ◌<◌}
 use native.Mathlib.Omega.{arith}
 use lib.ListN.{length}
-use Rattle.partition.specs.Marked.{torn_within, torn_first}
+use Rattle.partition.proofs.Marked.{torn_within, torn_first}
 use Rattle.partition.proofs.torn_pair.Goals as goal
 use Rattle.partition.proofs.torn_pair.Goals.{After-lowest_pair-j}
 

@@ -1,6 +1,6 @@
 -- `plan::put_entry` meets its contract: first and cells, then kind and flags as one u16. Assumes nothing.
 use Rattle.laws.specs.Put.{then, retext}
-use Rattle.plan.specs.Images.{entry_is}
+use Rattle.plan.proofs.Images.{entry_is}
 use Rattle.plan.proofs.put_entry.Goals as goal
 
 pub returns : goal.returns

@@ -6,10 +6,12 @@ use native.Mathlib.Omega.{arith}
 use lib.ListN.{take}
 use borrow.Author.Tests.{ltb-false}
 use Rattle.laws.specs.Tests.{neither}
-use Rattle.laws.specs.Below.{all_below, all_step}
+use Rattle.laws.specs.Below.{all_below}
+use Rattle.laws.proofs.Below.{all_step}
 use Rattle.laws.specs.Put.{Put, then, retext, nothing}
 use Rattle.plan.specs.Reading.{plan_by}
-use Rattle.plan.specs.Images.{fits_at, entries_below, entries_start, kept_fits, kept_more, not_imaged, imaged}
+use Rattle.plan.specs.Images.{fits_at}
+use Rattle.plan.proofs.Images.{entries_below, entries_start, kept_fits, kept_more, not_imaged, imaged}
 use Rattle.plan.proofs.put_image.Goals as goal
 
 pub loop-i-init : goal.loop-i-init

@@ -6,8 +6,9 @@ use native.Mathlib.Omega.{arith}
 use lib.ListN.{length, get_or, take}
 use lib.Seq.{take_all}
 use Rattle.plan.specs.Reading.{read_of}
-use Rattle.plan.specs.Steps.{Stands, digit_stands, digit_breaks, end_stands, end_breaks, value_most, ended, read_more, read_breaks}
-use Rattle.plan.specs.Steps.{kept_length, formless, ends_whole, ends_formless}
+use Rattle.plan.specs.Steps.{Stands}
+use Rattle.plan.proofs.Steps.{digit_stands, digit_breaks, end_stands, end_breaks, value_most, ended, read_more, read_breaks}
+use Rattle.plan.proofs.Steps.{kept_length, formless, ends_whole, ends_formless}
 use Rattle.std.proofs.Common.{rules}
 use Rattle.plan.proofs.read_numbers.Goals as goal
 use Rattle.plan.proofs.read_numbers.Goals.{then-is_digit+else-value-gt-MOST, else-is_digit+else-value-c}

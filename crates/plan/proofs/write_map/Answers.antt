@@ -3,7 +3,8 @@ use Prim.Native.Nat.{◌+◌, ◌*◌, ◌/◌}
 use mathlib.Core.Path.{◌≡◌, sym, ◌∙◌}
 use lib.ListN.{take}
 use borrow.Author.Tests.{not-true, not-false}
-use Rattle.plan.specs.Answers.{found_formless, found_short, found_many, Found, found}
+use Rattle.plan.proofs.Answers.{found_formless, found_short, found_many, found}
+use Rattle.plan.specs.Answers.{Found}
 use Rattle.plan.specs.Reading.{plan_by}
 use Rattle.plan.specs.Steps.{reading_of}
 use Rattle.plan.specs.declared.Reading.TheVariants.{Whole}

@@ -1,7 +1,7 @@
 -- `reason::find_reason` meets its contract: by the answer of `check_drive`. Assumes nothing.
 use mathlib.Core.Path.{sym, ◌∙◌}
 use Rattle.drive.specs.Laws.{judged}
-use Rattle.reason.specs.Laws.{reason_refused, reason_given}
+use Rattle.reason.proofs.Laws.{reason_refused, reason_given}
 use Rattle.reason.proofs.find_reason.Goals as goal
 
 pub reason_in-requires : goal.reason_in-requires

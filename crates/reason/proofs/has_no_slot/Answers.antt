@@ -3,11 +3,12 @@ use Prim.Native.Nat.{◌≤◌, ◌-◌}
 use mathlib.Core.Path.{◌≡◌, refl, sym, ap, ◌∙◌}
 use mathlib.Core.Bool.{true, not}
 use native.Mathlib.Omega.{arith}
-use Rattle.laws.specs.Below.{all_below, all_step, all_fails}
+use Rattle.laws.specs.Below.{all_below}
+use Rattle.laws.proofs.Below.{all_step, all_fails}
 use Rattle.map.specs.declared.Header.{Header}
 use Rattle.map.specs.Map.{header_of}
 use Rattle.reason.specs.Reason.{not_slot}
-use Rattle.reason.specs.Laws.{not_slot_lem}
+use Rattle.reason.proofs.Laws.{not_slot_lem}
 use Rattle.reason.proofs.has_no_slot.Goals as goal
 use Rattle.reason.proofs.has_no_slot.Goals.{After-is_slot, After-read_header-header}
 

@@ -2,7 +2,7 @@
 use mathlib.Core.Path.{sym, ap, ◌∙◌}
 use mathlib.Core.Bool.{Bool, cond}
 use Rattle.reason.specs.declared.Reason.TheVariants.{NoSlot, AllErased}
-use Rattle.reason.specs.Laws.{by_slot, torn_active}
+use Rattle.reason.proofs.Laws.{by_slot, torn_active}
 use Rattle.reason.proofs.reason_in.Goals as goal
 
 pub torn_reason-requires : goal.torn_reason-requires

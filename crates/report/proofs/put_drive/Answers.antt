@@ -3,7 +3,8 @@ use mathlib.Core.Path.{◌≡◌}
 use native.Mathlib.Omega.{arith}
 use lib.ListN.{take, length-take}
 use Rattle.report.specs.Status.{input_cells}
-use Rattle.report.specs.Laws.{Taken, accepted, taken, cells_are, cells_long}
+use Rattle.report.specs.Laws.{Taken}
+use Rattle.report.proofs.Laws.{accepted, taken, cells_are, cells_long}
 use Rattle.report.proofs.put_drive.Goals as goal
 use Rattle.report.proofs.put_drive.Goals.{After-numbers-3-1, After-read_header-header}
 

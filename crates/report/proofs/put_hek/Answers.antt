@@ -3,7 +3,7 @@ use mathlib.Core.Path.{sym, ◌∙◌}
 use native.Mathlib.Omega.{arith}
 use borrow.Author.Tests.{not-true, not-false}
 use Rattle.laws.specs.Put.{then}
-use Rattle.report.specs.Laws.{hek_none, hek_some}
+use Rattle.report.proofs.Laws.{hek_none, hek_some}
 use Rattle.report.proofs.put_hek.Goals as goal
 
 pub returns-then-not-is_available : goal.returns-then-not-is_available

@@ -3,13 +3,14 @@ use Prim.Native.Nat.{◌+◌, ◌*◌, ◌≤◌, ◌-◌}
 use mathlib.Core.Path.{◌≡◌, sym, ap}
 use native.Mathlib.Omega.{arith}
 use Rattle.map.specs.Map.{header_of}
-use Rattle.laws.specs.Below.{join_below, join_step}
+use Rattle.laws.specs.Below.{join_below}
+use Rattle.laws.proofs.Below.{join_step}
 use Rattle.map.specs.declared.Header.{Header}
-use Rattle.map.specs.Laws.{map_header}
+use Rattle.map.proofs.Laws.{map_header}
 use Rattle.reader.specs.declared.Fields.{Fields}
 use Rattle.laws.specs.Put.{Put, then, nothing, retext}
 use Rattle.report.specs.Status.{line_at}
-use Rattle.report.specs.Laws.{line_is, table_is, small_line, small_slot}
+use Rattle.report.proofs.Laws.{line_is, table_is, small_line, small_slot}
 use Rattle.report.proofs.put_table.Goals as goal
 use Rattle.report.proofs.put_table.Goals.{After-slice_known-2-1}
 

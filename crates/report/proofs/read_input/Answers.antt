@@ -8,7 +8,7 @@ use Rattle.laws.specs.Refusals.{Past}
 use Rattle.map.specs.Map.{map_good, header_of}
 use Rattle.map.specs.declared.Header.{Header}
 use Rattle.report.specs.Status.{image_of, cell_count, input_tests}
-use Rattle.report.specs.Laws.{input_at, input_past, image_is}
+use Rattle.report.proofs.Laws.{input_at, input_past, image_is}
 use Rattle.report.proofs.read_input.Goals as goal
 use Rattle.report.proofs.read_input.Goals.{After-struct_known-1, Else-input-end}
 

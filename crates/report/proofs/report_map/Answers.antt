@@ -6,7 +6,8 @@ use Rattle.context.specs.State.{outcome}
 use Rattle.plan.specs.declared.Answer.{Answer}
 use Rattle.plan.specs.declared.Answer.TheVariants.{Refused}
 use Rattle.plan.specs.Writing.{writing_of}
-use Rattle.report.specs.Maps.{part, image_told, number_most, refusal_told}
+use Rattle.report.specs.Maps.{part}
+use Rattle.report.proofs.Maps.{image_told, number_most, refusal_told}
 use Rattle.report.proofs.report_map.Goals as goal
 
 pub slice_bounds-write_map-end-2 : goal.slice_bounds-write_map-end-2

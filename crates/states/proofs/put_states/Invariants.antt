@@ -6,7 +6,7 @@ use native.Mathlib.Omega.{arith}
 use lib.ListN.{length, drop, length-set}
 use Rattle.laws.specs.Below.{join_below}
 use Rattle.map.specs.Map.{header_of}
-use Rattle.map.specs.Laws.{map_header}
+use Rattle.map.proofs.Laws.{map_header}
 use Rattle.map.specs.declared.Header.{Header}
 use Rattle.partition.specs.declared.Survey.{Survey}
 use Rattle.drive.specs.Laws.{short_most}

@@ -4,7 +4,8 @@ use mathlib.Core.Path.{◌≡◌, sym, ap, ◌∙◌}
 use native.Mathlib.Omega.{arith}
 use Rattle.map.specs.declared.Header.{Header}
 use Rattle.map.specs.declared.Entry.{Entry}
-use Rattle.laws.specs.Below.{first_from, first_start, first_here, first_next, first_end}
+use Rattle.laws.specs.Below.{first_from}
+use Rattle.laws.proofs.Below.{first_start, first_here, first_next, first_end}
 use Rattle.word.specs.Word.{holds, is_held_at, partition_of}
 use Rattle.word.proofs.partition_of.Goals as goal
 use Rattle.word.proofs.partition_of.Goals.{After-holds_cell}

@@ -3,8 +3,8 @@ use native.Mathlib.Omega.{arith}
 use mathlib.Core.Path.{ap}
 use Rattle.laws.specs.Put.{retext}
 use Rattle.map.specs.declared.Header.{Header}
-use Rattle.map.specs.Laws.{map_header}
-use Rattle.wording.specs.Laws.{small_reason, why_is}
+use Rattle.map.proofs.Laws.{map_header}
+use Rattle.wording.proofs.Laws.{small_reason, why_is}
 use Rattle.std.proofs.Common.{rules}
 use Rattle.wording.proofs.put_why.Goals as goal
 

@@ -7,7 +7,7 @@ use Rattle.cache.specs.Cache.{cache_of, has_place}
 use Rattle.cache.specs.declared.Sought.TheVariants.{Tag}
 use Rattle.codec.specs.Fields.{request_fields, tag_at}
 use Rattle.codec.specs.declared.Command.TheVariants.{Klod}
-use Rattle.mailbox.specs.Judging.{load_at, load_past}
+use Rattle.mailbox.proofs.Judging.{load_at, load_past}
 use Rattle.mailbox.proofs.judge.load_refusal.Goals as goal
 use Rattle.mailbox.proofs.judge.load_refusal.Goals.{After-has_place, After-is_hek_available}
 

@@ -6,7 +6,7 @@ use Rattle.cache.specs.Cache.{cache_of, has_place}
 use Rattle.cache.specs.declared.Sought.TheVariants.{Tag}
 use Rattle.codec.specs.Fields.{request_fields, tag_at}
 use Rattle.codec.specs.declared.Command.TheVariants.{Kunl}
-use Rattle.mailbox.specs.Judging.{unload_at, unload_past}
+use Rattle.mailbox.proofs.Judging.{unload_at, unload_past}
 use Rattle.mailbox.proofs.judge.unload_refusal.Goals as goal
 use Rattle.mailbox.proofs.judge.unload_refusal.Goals.{After-has_place}
 

@@ -1,0 +1,2 @@
+pub mod Burn
+pub mod Charge

@@ -1,0 +1,3 @@
+pub mod Below
+pub mod Bits
+pub mod Ones

@@ -1,0 +1,4 @@
+pub mod Laws
+pub mod Handles
+pub mod Judging
+pub mod Told

@@ -1,0 +1,10 @@
+pub mod Laws
+pub mod ReadDecimal
+pub mod Fields
+pub mod Images
+pub mod Steps
+pub mod Valid
+pub mod Answers
+pub mod Exactly
+pub mod Longest
+pub mod PastLongest
