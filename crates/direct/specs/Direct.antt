@@ -1,5 +1,5 @@
 -- Document 01, "Direct commands", with requests P7 and P8: what a command on a word answers, and the cells that it leaves. Assumes nothing.
-use Rattle.std.specs.Prelude.{ℕ, ◌+◌, ◌^◌, Bool, true, false, cond, not, ◌&&◌, ◌||◌, List, [], ◌∷◌, ◌++◌, eqb, leb, get_or}
+use Rattle.std.specs.Prelude.{ℕ, ◌^◌, Bool, true, false, cond, not, ◌&&◌, ◌||◌, List, [], ◌∷◌, ◌++◌, eqb, leb, get_or}
 use Rattle.std.specs.Int.Bits.{bit_or}
 use Rattle.laws.specs.Refusals.{first_of}
 use Rattle.context.specs.State.{State, with_cells, Outcome, outcome, refusing}

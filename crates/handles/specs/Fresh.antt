@@ -1,8 +1,8 @@
 -- A fresh table: what among, distinct and largest say of a list of numbers, and that a table which is made is fresh, with the handles and
 -- algorithms that were given. Assumes nothing.
-use Rattle.std.specs.Prelude.{ℕ, zero, suc, ◌+◌, ◌^◌, ◌≤◌, ◌<◌, ◌≡◌, refl, Bool, true, false, not, List, [], ◌∷◌, map, eqb, ltb, length, get_or, take, set}
+use Rattle.std.specs.Prelude.{ℕ, zero, suc, ◌+◌, ◌^◌, ◌≤◌, ◌<◌, ◌≡◌, refl, true, false, not, List, [], ◌∷◌, map, eqb, ltb, length, get_or, take, set}
 use Rattle.std.proofs.Math.Path.{sym}
-use Rattle.std.proofs.Common.{ap, ap₂, subst, ◌∙◌, ⊎_elim, arith, not-suc-le-zero, le_of_suc-le-suc, length-set, drop-cons, eqb-true, eq-eqb, lt-ltb, le-leb, ltb-true, ltb-false}
+use Rattle.std.proofs.Common.{ap, ap₂, subst, ◌∙◌, ⊎_elim, arith, not-suc-le-zero, le_of_suc-le-suc, drop-cons, eqb-true, eq-eqb, lt-ltb, le-leb, ltb-true, ltb-false}
 use Rattle.std.proofs.lemmas.Bool.{false≢true, not-false, not-true}
 use Rattle.std.proofs.Math.Seq.{get_or-set_same, get_or-set_other}
 use Rattle.laws.specs.Tests.{and, either, decided, not_yes, cond_keeps}

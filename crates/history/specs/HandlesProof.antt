@@ -4,7 +4,6 @@ use Rattle.std.specs.Prelude.{ℕ, ◌≡◌, false, List, [], ◌∷◌, drop}
 use Rattle.context.specs.Context.{count_at}
 use Rattle.handles.specs.Handles.{table_of, lowest_with, used_up, next_number, rotated_at}
 use Rattle.handles.specs.Laws.{Lowest}
-use Rattle.history.specs.Calls.{after}
 
 -- ---- what a call makes of the table: it leaves it and gives no number, or it is a rotation, or a table is made where there was none
 

@@ -6,7 +6,6 @@ use Rattle.laws.specs.Refusals.{lacks, ascend_from}
 use Rattle.engine.specs.declared.Order.{Order}
 use Rattle.codec.specs.Fields.{request_fields, length_of, command_of, least_room}
 use Rattle.mailbox.specs.Mailbox.{Fits}
-use Rattle.mailbox.specs.Judging.{not_0}
 
 -- ---- what an accepted call tells
 

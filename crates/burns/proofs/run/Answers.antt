@@ -1,11 +1,10 @@
 -- `burns::run` meets its contract: the indicator's burn, then each turn a word of the data, and the last burn; what is left of the run is the
 -- loop's invariant. Assumes nothing.
-use Prim.Native.Nat.{ℕ, ◌+◌, ◌-◌, ◌^◌, ◌≤◌, ◌<◌, min}
+use Prim.Native.Nat.{ℕ, ◌+◌, ◌^◌, ◌≤◌, ◌<◌}
 use mathlib.Core.Path.{◌≡◌, sym, ◌∙◌}
 use mathlib.Core.List.{List}
 use native.Mathlib.Omega.{arith}
 use lib.ListN.{length}
-use borrow.Author.Tests.{not-true, not-false}
 use Rattle.fuse.proofs.Charge.{new_most}
 use Rattle.burns.specs.Run.{order, tally_of}
 use Rattle.burns.specs.Turns.{Running}

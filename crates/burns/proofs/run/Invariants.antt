@@ -1,15 +1,9 @@
 -- `burns::run` meets its contract: the indicator's burn, then each turn a word of the data, and the last burn; what is left of the run is the
 -- loop's invariant. Assumes nothing.
-use Prim.Native.Nat.{ℕ, ◌+◌, ◌-◌, ◌^◌, ◌≤◌, ◌<◌, min}
-use mathlib.Core.Path.{◌≡◌, sym, ◌∙◌}
+use Prim.Native.Nat.{ℕ, ◌-◌, ◌≤◌}
 use mathlib.Core.List.{List}
-use native.Mathlib.Omega.{arith}
-use lib.ListN.{length}
-use borrow.Author.Tests.{not-true, not-false}
-use Rattle.fuse.proofs.Charge.{new_most}
-use Rattle.burns.specs.Run.{order, tally_of}
+use Rattle.burns.specs.Run.{tally_of}
 use Rattle.burns.specs.Turns.{Running}
-use Rattle.burns.proofs.Turns.{first_cut, first_stops, first_goes, data_goes, last_turn, order_fewer, order_two, data_within}
 use Rattle.burns.proofs.run.Given as goal
 
 -- whatever run stood before the loop, with the indicator burned, stands still

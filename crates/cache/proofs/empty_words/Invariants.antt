@@ -1,10 +1,8 @@
 -- `cache::empty_words` meets its contract: the loop's invariant: the words up to `k` are 0. Assumes nothing.
-use lib.ListN.{length, drop, replicate, length-set}
+use lib.ListN.{length, drop, replicate}
 use Prim.Native.Nat.{◌≤◌, ◌-◌}
-use mathlib.Core.Path.{◌≡◌, refl}
+use mathlib.Core.Path.{◌≡◌}
 use mathlib.Core.List.{◌++◌}
-use native.Mathlib.Omega.{arith}
-use Rattle.cache.proofs.Laws.{zeros_next}
 use Rattle.cache.proofs.empty_words.Given as goal
 
 abbrev pub invariant-loop-k : goal.invariant-loop-k

@@ -1,10 +1,7 @@
 -- `cache::lowest_place` meets its contract: the loop's invariant: the search from `k` on answers for the whole. Assumes nothing.
-use Prim.Native.Nat.{◌≤◌, ◌-◌}
-use mathlib.Core.Path.{◌≡◌, sym, ◌∙◌}
+use mathlib.Core.Path.{sym, ◌∙◌}
 use native.Mathlib.Omega.{arith}
-use Rattle.laws.specs.Below.{first_from}
-use Rattle.laws.proofs.Below.{first_start, first_here, first_next, first_end}
-use Rattle.cache.specs.Cache.{cache_of, is_at, lowest_place}
+use Rattle.laws.proofs.Below.{first_here, first_next, first_end}
 use Rattle.cache.proofs.lowest_place.Goals as goal
 
 pub returns-then-is_at : goal.returns-then-is_at

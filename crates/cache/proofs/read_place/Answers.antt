@@ -1,7 +1,6 @@
 -- `cache::read_place` meets its contract: there is no place past 15. Assumes nothing.
 use mathlib.Core.Path.{◌∙◌}
-use Rattle.cache.specs.Cache.{cache_of}
-use Rattle.cache.proofs.Laws.{place_read, past_read}
+use Rattle.cache.proofs.Laws.{place_read}
 use Rattle.cache.proofs.read_place.Goals as goal
 
 pub returns : goal.returns

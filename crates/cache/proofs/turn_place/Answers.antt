@@ -1,6 +1,6 @@
 -- `cache::turn_place` meets its contract: a place that is sought is set, any other stays. Assumes nothing.
 use mathlib.Core.Path.{sym, ◌∙◌}
-use Rattle.cache.proofs.Laws.{turn_sets, turn_passes}
+use Rattle.cache.proofs.Laws.{turn_sets}
 use Rattle.cache.proofs.turn_place.Goals as goal
 
 pub returns-then-is_at : goal.returns-then-is_at

@@ -1,6 +1,5 @@
 -- `cache::turn_places` meets its contract: the loop's invariant: the places below `k` are turned. Assumes nothing.
-use Prim.Native.Nat.{◌≤◌, ◌-◌}
-use mathlib.Core.Path.{◌≡◌, refl}
+use mathlib.Core.Path.{refl}
 use native.Mathlib.Omega.{arith}
 use Rattle.cache.specs.Cache.{turned_below}
 use Rattle.cache.proofs.Laws.{turn_next}

@@ -1,9 +1,7 @@
 -- `cache::turn_places` meets its contract: the loop's invariant: the places below `k` are turned. Assumes nothing.
 use Prim.Native.Nat.{◌≤◌, ◌-◌}
-use mathlib.Core.Path.{◌≡◌, refl}
-use native.Mathlib.Omega.{arith}
+use mathlib.Core.Path.{◌≡◌}
 use Rattle.cache.specs.Cache.{turned_below}
-use Rattle.cache.proofs.Laws.{turn_next}
 use Rattle.cache.proofs.turn_places.Given as goal
 
 abbrev pub invariant-loop-k : goal.invariant-loop-k

@@ -1,6 +1,5 @@
 -- `chksum::sum_from` meets its contract: the loop's invariant: the sum so far and the bytes left make the whole, wrapping. Assumes nothing.
-use Rattle.std.proofs.Common.{◌≡◌, ◌+◌, ◌-◌, ◌%◌, ◌^◌, ◌<◌, length, drop, ap, arith, drop_of_length-le, rules}
-use Rattle.chksum.specs.Laws.{sum_step}
+use Rattle.std.proofs.Common.{◌≡◌, ◌+◌, ◌-◌, ◌%◌, ◌^◌, ◌<◌, length, drop}
 use Rattle.chksum.specs.Chksum.{sum_bytes}
 use Rattle.chksum.proofs.sum_from.Given as goal
 

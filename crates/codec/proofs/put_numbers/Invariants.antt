@@ -1,13 +1,8 @@
 -- `codec::put_numbers` meets its contract: the loop's invariant: the first `k` numbers are written. Assumes nothing.
-use Prim.Native.Nat.{ℕ, ◌≤◌, ◌-◌}
-use mathlib.Core.Path.{◌≡◌, ap, ◌∙◌}
-use mathlib.Core.List.{◌++◌}
-use native.Mathlib.Omega.{arith}
+use Prim.Native.Nat.{◌≤◌, ◌-◌}
 use lib.ListN.{take}
-use Rattle.laws.specs.Put.{Put, then, nothing, retext}
-use Rattle.endian.specs.Endian.{bytes4}
+use Rattle.laws.specs.Put.{Put}
 use Rattle.codec.specs.Fields.{written, numbers_in}
-use Rattle.codec.proofs.Laws.{written_next, written_most}
 use Rattle.codec.proofs.put_numbers.Given as goal
 
 abbrev pub invariant-loop-k : goal.invariant-loop-k

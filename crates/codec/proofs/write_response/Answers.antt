@@ -5,7 +5,7 @@ use native.Mathlib.Omega.{arith}
 use lib.ListN.{take}
 use Rattle.laws.specs.Put.{then, retext}
 use Rattle.codec.specs.Fields.{written, numbers_in}
-use Rattle.codec.proofs.Laws.{written_most, enough, fits_least, responded}
+use Rattle.codec.proofs.Laws.{written_most, fits_least, responded}
 use Rattle.codec.proofs.write_response.Goals as goal
 
 pub overflow_cast-result : goal.overflow_cast-result

@@ -2,8 +2,7 @@
 use mathlib.Core.Path.{◌≡◌, refl, sym, ◌∙◌}
 use mathlib.Core.Bool.{false}
 use Rattle.direct.specs.declared.Command.TheVariants.{Write}
-use Rattle.direct.specs.declared.Found.TheVariants.{Word}
-use Rattle.direct.specs.Direct.{forbidden, clears, changes_slot, cells_after, new_after, found_of}
+use Rattle.direct.specs.Direct.{forbidden, clears, changes_slot, cells_after, new_after}
 use Rattle.direct.proofs.Laws.{write_forbidden, write_clears, write_keeps, found_is, find_refused, named, word_at_lem, word_carried}
 use Rattle.std.proofs.Common.{rules}
 use Rattle.direct.proofs.write.Goals as goal

@@ -1,7 +1,6 @@
 -- `direct::zeroize` meets its contract: 8 and 10 by its tests; else its word is burned. Assumes nothing.
-use mathlib.Core.Path.{◌≡◌, refl, sym, ◌∙◌}
-use Rattle.direct.specs.declared.Found.TheVariants.{Word}
-use Rattle.direct.specs.Direct.{clears, changes_slot, cells_after, new_after, found_of}
+use mathlib.Core.Path.{refl, sym, ◌∙◌}
+use Rattle.direct.specs.Direct.{clears, changes_slot, cells_after, new_after}
 use Rattle.direct.proofs.Laws.{zeroize_forbidden, found_is, find_refused, named, word_at_lem, word_carried}
 use Rattle.std.proofs.Common.{rules}
 use Rattle.direct.proofs.zeroize.Goals as goal

@@ -1,12 +1,9 @@
 -- `drive::active_in` meets its contract: the loop's invariant: the search from `i` on answers for the whole. Assumes nothing.
-use Prim.Native.Nat.{◌≤◌, ◌-◌}
-use mathlib.Core.Path.{◌≡◌, sym, ap, ◌∙◌}
+use mathlib.Core.Path.{sym, ap, ◌∙◌}
 use native.Mathlib.Omega.{arith}
-use Rattle.laws.specs.Below.{first_from}
-use Rattle.laws.proofs.Below.{first_start, first_here, first_next, first_end}
+use Rattle.laws.proofs.Below.{first_here, first_next, first_end}
 use Rattle.map.specs.declared.Header.{Header}
 use Rattle.drive.specs.Laws.{active_at, active_none, open_is}
-use Rattle.drive.specs.Drive.{open_slot, active_place}
 use Rattle.drive.proofs.active_in.Goals as goal
 
 pub loop-i-preserved : goal.loop-i-preserved

@@ -1,11 +1,7 @@
 -- `drive::active_in` meets its contract: the loop's invariant: the search from `i` on answers for the whole. Assumes nothing.
 use Prim.Native.Nat.{◌≤◌, ◌-◌}
-use mathlib.Core.Path.{◌≡◌, sym, ap, ◌∙◌}
-use native.Mathlib.Omega.{arith}
+use mathlib.Core.Path.{◌≡◌}
 use Rattle.laws.specs.Below.{first_from}
-use Rattle.laws.proofs.Below.{first_start, first_here, first_next, first_end}
-use Rattle.map.specs.declared.Header.{Header}
-use Rattle.drive.specs.Laws.{active_at, active_none, open_is}
 use Rattle.drive.specs.Drive.{open_slot, active_place}
 use Rattle.drive.proofs.active_in.Given as goal
 

@@ -2,7 +2,6 @@
 use Prim.Native.Nat.{◌+◌, ◌≤◌}
 use lib.ListN.{length}
 use Rattle.map.proofs.Laws.{map_entry}
-use Rattle.drive.specs.Laws.{part_is}
 use Rattle.drive.proofs.part_of.Goals as goal
 
 pub slice_bounds-result-end : goal.slice_bounds-result-end

@@ -1,10 +1,7 @@
 -- `drive::slot_at` meets its contract: one law for every state. Assumes nothing.
 use mathlib.Core.Path.{◌≡◌, sym, ◌∙◌}
-use mathlib.Core.Bool.{true}
-use borrow.Author.Tests.{not-true, not-false}
 use Rattle.partition.specs.declared.State.{State}
 use Rattle.partition.specs.declared.State.TheVariants.{Erased, Torn, Blank, Programmed}
-use Rattle.map.specs.Map.{slot}
 use Rattle.drive.specs.Drive.{slot_in, slot_at}
 use Rattle.drive.specs.Laws.{no_slot, survey_is, slot_by}
 use Rattle.drive.proofs.slot_at.Goals as goal

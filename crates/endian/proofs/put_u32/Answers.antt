@@ -1,6 +1,4 @@
 -- `endian::put_u32` meets its contract: four stores, one after the other. Assumes nothing.
-use native.Mathlib.Omega.{arith}
-use lib.ListN.{length-set}
 use Rattle.endian.specs.Endian.{stored}
 use Rattle.endian.proofs.put_u32.Goals as goal
 

@@ -1,7 +1,6 @@
 -- `endian::u16_at` meets its contract: where both bytes are there the sum is the definition; else the low byte is all. Assumes nothing.
 use Prim.Native.Nat.{◌+◌, ◌≤◌}
 use mathlib.Core.Path.{sym, ◌∙◌}
-use mathlib.Core.Logic.{⊎_elim}
 use native.Mathlib.Omega.{arith}
 use lib.ListN.{length}
 use Rattle.endian.specs.Endian.{u16_at, low_u16}

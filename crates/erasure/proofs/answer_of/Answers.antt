@@ -1,7 +1,6 @@
 -- `erasure::answer_of` meets its contract: by how the run ended; its numbers fit, since the map is good. Assumes nothing.
-use mathlib.Core.Path.{refl}
 use native.Mathlib.Omega.{arith}
-use Rattle.erasure.proofs.Laws.{count_fits, first_short_fits, ended_is, ended}
+use Rattle.erasure.proofs.Laws.{count_fits, first_short_fits}
 use Rattle.erasure.proofs.answer_of.Goals as goal
 
 pub overflow_cast-result : goal.overflow_cast-result

@@ -2,7 +2,6 @@
 use Prim.Native.Nat.{ℕ, ◌+◌, ◌-◌}
 use mathlib.Core.Path.{ap, ap₂, ◌∙◌}
 use native.Mathlib.Omega.{arith}
-use lib.ListN.{length-set}
 use lib.Bits.{bit_and, bit_or}
 use lib.Count.{ones}
 use Rattle.fuse.specs.Fuse.{all_ones}

@@ -1,5 +1,4 @@
 -- `fuse::burn_word` meets its contract: a pair, or a cell. Assumes nothing.
-use native.Mathlib.Omega.{arith}
 use Rattle.fuse.specs.Fuse.{burn_word}
 use Rattle.fuse.proofs.Charge.{narrow_adds}
 use Rattle.fuse.proofs.burn_word.Goals as goal

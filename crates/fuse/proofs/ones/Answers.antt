@@ -1,7 +1,6 @@
 -- `fuse::ones` meets its contract: the language's count is `ones_of`. Assumes nothing.
 use mathlib.Core.Path.{sym}
-use native.Mathlib.Omega.{arith}
-use Rattle.fuse.proofs.Burn.{ones_counted, ones_most}
+use Rattle.fuse.proofs.Burn.{ones_counted}
 use Rattle.fuse.proofs.ones.Goals as goal
 
 pub returns : goal.returns

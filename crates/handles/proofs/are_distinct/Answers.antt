@@ -1,6 +1,5 @@
 -- `handles::are_distinct` meets its contract: by how many handles there are. Assumes nothing.
-use native.Mathlib.Omega.{arith}
-use Rattle.handles.specs.Laws.{distinct_one, distinct_not, distinct_two, distinct_three}
+use Rattle.handles.specs.Laws.{distinct_one}
 use Rattle.handles.proofs.are_distinct.Goals as goal
 
 pub returns-then-handles-lt2 : goal.returns-then-handles-lt2

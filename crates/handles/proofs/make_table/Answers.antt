@@ -1,7 +1,7 @@
 -- `handles::make_table` meets its contract: refused by the tests, else its five words are stored. Assumes nothing.
 use mathlib.Core.Path.{sym, ◌∙◌}
 use Rattle.handles.specs.Making.{made}
-use Rattle.handles.specs.Laws.{making_refused, making_made, making_most}
+use Rattle.handles.specs.Laws.{making_refused, making_made}
 use Rattle.handles.proofs.make_table.Goals as goal
 
 pub returns-then-number-ne0 : goal.returns-then-number-ne0

@@ -3,9 +3,9 @@ use mathlib.Core.Path.{◌≡◌, sym, ap, ◌∙◌}
 use mathlib.Core.Bool.{false, not}
 use lib.Dec.{eqb}
 use lib.ListN.{length}
-use borrow.Author.Tests.{eq-eqb, ne_eqb, not-false}
+use borrow.Author.Tests.{eq-eqb, ne_eqb}
 use Rattle.handles.specs.Handles.{count_good, table_of}
-use Rattle.handles.specs.Laws.{count_read, good_most, making_at, making_past}
+use Rattle.handles.specs.Laws.{count_read, making_at, making_past}
 use Rattle.handles.proofs.making_refusal.Goals as goal
 use Rattle.handles.proofs.making_refusal.Goals.{Else-algorithms-handles, Else-context-ne0, Else-not-is_count}
 

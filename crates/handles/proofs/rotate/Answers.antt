@@ -1,5 +1,5 @@
 -- `handles::rotate` meets its contract: there is no place past the last. Assumes nothing.
-use Rattle.handles.specs.Laws.{rotated_in, rotated_past}
+use Rattle.handles.specs.Laws.{rotated_in}
 use Rattle.handles.proofs.rotate.Goals as goal
 
 pub returns-then-k-lt-MOST : goal.returns-then-k-lt-MOST

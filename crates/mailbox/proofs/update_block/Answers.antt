@@ -1,5 +1,4 @@
 -- `mailbox::update_block` meets its contract: by the order; a load's request is long enough for its MEK. Assumes nothing.
-use mathlib.Core.Path.{refl}
 use Rattle.codec.specs.Fields.{request_fields}
 use Rattle.codec.proofs.Laws.{mek_most}
 use Rattle.codec.specs.declared.Command.TheVariants.{Klod}

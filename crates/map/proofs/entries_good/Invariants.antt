@@ -1,14 +1,9 @@
 -- `map::entries_good` meets its contract: the loop's invariant: the entries below `i` are good, the last of them ends at `end`, and the next starts at `at`. Assumes nothing.
 use Prim.Native.Nat.{◌+◌, ◌*◌, ◌≤◌, ◌-◌}
-use mathlib.Core.Path.{◌≡◌, refl, sym, ap, ◌∙◌}
+use mathlib.Core.Path.{◌≡◌}
 use mathlib.Core.Bool.{true}
-use native.Mathlib.Omega.{arith}
-use borrow.Author.Tests.{not-true, not-false}
 use Rattle.laws.specs.Below.{all_below}
-use Rattle.laws.proofs.Below.{all_step, all_fails}
-use Rattle.map.specs.declared.Header.{Header}
-use Rattle.map.specs.Map.{entry_place, entry_at, end_of, end_before, place_good}
-use Rattle.map.proofs.Laws.{end_next, entry_own, spare_own, place_is}
+use Rattle.map.specs.Map.{end_before, place_good}
 use Rattle.map.proofs.entries_good.Given as goal
 
 abbrev pub invariant-loop-i : goal.invariant-loop-i

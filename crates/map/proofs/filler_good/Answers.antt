@@ -1,6 +1,5 @@
 -- `map::filler_good` meets its contract: the loop's invariant: `good` tells whether the filler is good below `k`. Assumes nothing.
-use Prim.Native.Nat.{◌≤◌, ◌-◌}
-use mathlib.Core.Path.{◌≡◌, refl}
+use mathlib.Core.Path.{refl}
 use native.Mathlib.Omega.{arith}
 use Rattle.laws.specs.Below.{all_below}
 use Rattle.laws.proofs.Below.{all_next}

@@ -1,11 +1,8 @@
 -- `map::filler_good` meets its contract: the loop's invariant: `good` tells whether the filler is good below `k`. Assumes nothing.
 use Prim.Native.Nat.{◌≤◌, ◌-◌}
-use mathlib.Core.Path.{◌≡◌, refl}
-use native.Mathlib.Omega.{arith}
+use mathlib.Core.Path.{◌≡◌}
 use Rattle.laws.specs.Below.{all_below}
-use Rattle.laws.proofs.Below.{all_next}
 use Rattle.map.specs.Map.{filler_good}
-use Rattle.map.proofs.Laws.{filler_is}
 use Rattle.map.proofs.filler_good.Given as goal
 
 abbrev pub invariant-loop-k : goal.invariant-loop-k

@@ -2,7 +2,6 @@
 use mathlib.Core.Path.{refl}
 use Rattle.laws.specs.Tests.{every}
 use Rattle.map.specs.Map.{header_good}
-use Rattle.std.proofs.Common.{rules}
 use Rattle.map.proofs.header_good.Goals as goal
 
 pub returns : goal.returns

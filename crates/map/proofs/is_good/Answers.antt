@@ -1,9 +1,7 @@
 -- `map::is_good` meets its contract: header, filler and entries in turn. Assumes nothing.
 use mathlib.Core.Path.{sym, ◌∙◌}
 use native.Mathlib.Omega.{arith}
-use borrow.Author.Tests.{not-true, not-false}
 use Rattle.map.proofs.Laws.{header_rules, bad_header, bad_filler, good_so_far}
-use Rattle.std.proofs.Common.{rules}
 use Rattle.map.proofs.is_good.Goals as goal
 
 pub returns-then-not-header_good : goal.returns-then-not-header_good

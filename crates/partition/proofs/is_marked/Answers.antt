@@ -1,5 +1,5 @@
 -- `partition::is_marked` meets its contract: the three tests of the definition. Assumes nothing.
-use borrow.Author.Tests.{not-true, not-false, lt-leb, le-leb}
+use borrow.Author.Tests.{lt-leb, le-leb}
 use Rattle.partition.specs.Partition.{marked}
 use Rattle.partition.proofs.is_marked.Goals as goal
 

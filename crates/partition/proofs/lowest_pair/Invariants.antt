@@ -1,9 +1,7 @@
 -- `partition::lowest_pair` meets its contract: the loop's invariant: the search from `j` on answers for the whole. Assumes nothing.
 use Prim.Native.Nat.{◌≤◌, ◌-◌}
-use mathlib.Core.Path.{◌≡◌, sym, ◌∙◌}
-use native.Mathlib.Omega.{arith}
+use mathlib.Core.Path.{◌≡◌}
 use Rattle.laws.specs.Below.{first_from}
-use Rattle.laws.proofs.Below.{first_start, first_here, first_next, first_end}
 use Rattle.partition.specs.Partition.{short_at, lowest_pair}
 use Rattle.partition.proofs.lowest_pair.Given as goal
 

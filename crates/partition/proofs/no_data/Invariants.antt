@@ -1,13 +1,10 @@
 -- `partition::no_data` meets its contract: the loop's invariant: the cells below `k` are zero. Assumes nothing.
 use Prim.Native.Nat.{◌≤◌, ◌-◌}
-use mathlib.Core.Path.{◌≡◌, refl, sym}
+use mathlib.Core.Path.{◌≡◌}
 use mathlib.Core.Bool.{true}
-use native.Mathlib.Omega.{arith}
 use lib.ListN.{length}
 use Rattle.laws.specs.Below.{all_below}
-use Rattle.laws.proofs.Below.{all_step, all_fails}
 use Rattle.partition.specs.Partition.{zero_cell}
-use Rattle.partition.proofs.Laws.{zero_cell_lem, not_zero_cell}
 use Rattle.partition.proofs.no_data.Given as goal
 
 abbrev pub invariant-loop-k : goal.invariant-loop-k

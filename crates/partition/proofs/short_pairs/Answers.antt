@@ -1,12 +1,10 @@
 -- `partition::short_pairs` meets its contract: the loop's invariant: `short` pairs below `j` are short. Assumes nothing.
-use Prim.Native.Nat.{◌≤◌, ◌-◌}
-use mathlib.Core.Path.{◌≡◌, refl, sym, ◌∙◌}
-use mathlib.Core.Logic.{⊎_elim}
+use mathlib.Core.Path.{refl, sym, ◌∙◌}
 use mathlib.Core.Bool.{true, false}
 use native.Mathlib.Omega.{arith}
 use Rattle.laws.specs.Below.{count_below}
 use Rattle.laws.proofs.Below.{count_step, count_le}
-use Rattle.partition.specs.Partition.{pairs, short_at}
+use Rattle.partition.specs.Partition.{short_at}
 use Rattle.partition.proofs.short_pairs.Goals as goal
 use Rattle.partition.proofs.short_pairs.Goals.{else-short_at, then-short_at}
 

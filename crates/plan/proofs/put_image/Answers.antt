@@ -1,17 +1,14 @@
 -- `plan::put_image` meets its contract: the loop's invariant: the entries below `i` are written behind the header, and all of them fit. Assumes nothing.
-use Prim.Native.Nat.{◌+◌, ◌-◌, ◌*◌, ◌≤◌}
+use Prim.Native.Nat.{◌+◌, ◌*◌}
 use mathlib.Core.Path.{◌≡◌, refl, ap, ◌∙◌}
-use mathlib.Core.Bool.{true, not}
+use mathlib.Core.Bool.{not}
 use native.Mathlib.Omega.{arith}
 use lib.ListN.{take}
-use borrow.Author.Tests.{ltb-false}
-use Rattle.laws.specs.Tests.{neither}
 use Rattle.laws.specs.Below.{all_below}
 use Rattle.laws.proofs.Below.{all_step}
-use Rattle.laws.specs.Put.{Put, then, retext, nothing}
+use Rattle.laws.specs.Put.{then, retext, nothing}
 use Rattle.plan.specs.Reading.{plan_by}
-use Rattle.plan.specs.Images.{fits_at}
-use Rattle.plan.proofs.Images.{entries_below, entries_start, kept_fits, kept_more, not_imaged, imaged}
+use Rattle.plan.proofs.Images.{entries_start, kept_fits, kept_more, not_imaged, imaged}
 use Rattle.plan.proofs.put_image.Goals as goal
 
 pub loop-i-init : goal.loop-i-init

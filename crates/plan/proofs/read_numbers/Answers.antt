@@ -1,14 +1,11 @@
 -- `plan::read_numbers` meets its contract: the loop's invariant: count, value and numbers stand for how far the text was read below `k`. Assumes nothing.
-use Prim.Native.Nat.{◌+◌, ◌-◌, ◌≤◌}
-use mathlib.Core.Path.{◌≡◌, refl, sym, ◌∙◌}
-use mathlib.Core.Logic.{⊎_elim}
+use Prim.Native.Nat.{◌+◌, ◌≤◌}
+use mathlib.Core.Path.{refl, sym, ◌∙◌}
 use native.Mathlib.Omega.{arith}
 use lib.ListN.{length, get_or, take}
-use lib.Seq.{take_all}
 use Rattle.plan.specs.Reading.{read_of}
-use Rattle.plan.specs.Steps.{Stands}
-use Rattle.plan.proofs.Steps.{digit_stands, digit_breaks, end_stands, end_breaks, value_most, ended, read_more, read_breaks}
-use Rattle.plan.proofs.Steps.{kept_length, formless, ends_whole, ends_formless}
+use Rattle.plan.proofs.Steps.{digit_stands, digit_breaks, end_stands, end_breaks, ended, read_more, read_breaks}
+use Rattle.plan.proofs.Steps.{kept_length, formless}
 use Rattle.std.proofs.Common.{rules}
 use Rattle.plan.proofs.read_numbers.Goals as goal
 use Rattle.plan.proofs.read_numbers.Goals.{then-is_digit+else-value-gt-MOST, else-is_digit+else-value-c}

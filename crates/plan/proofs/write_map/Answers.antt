@@ -1,13 +1,10 @@
 -- `plan::write_map` meets its contract: each refusal is that of the first test that applies, and the image is judged last. Assumes nothing.
 use Prim.Native.Nat.{◌+◌, ◌*◌, ◌/◌}
-use mathlib.Core.Path.{◌≡◌, sym, ◌∙◌}
+use mathlib.Core.Path.{sym, ◌∙◌}
 use lib.ListN.{take}
-use borrow.Author.Tests.{not-true, not-false}
 use Rattle.plan.proofs.Answers.{found_formless, found_short, found_many, found}
 use Rattle.plan.specs.Answers.{Found}
 use Rattle.plan.specs.Reading.{plan_by}
-use Rattle.plan.specs.Steps.{reading_of}
-use Rattle.plan.specs.declared.Reading.TheVariants.{Whole}
 use Rattle.plan.proofs.write_map.Goals as goal
 use Rattle.plan.proofs.write_map.Goals.{After-put_image}
 

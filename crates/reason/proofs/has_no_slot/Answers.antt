@@ -1,7 +1,6 @@
 -- `reason::has_no_slot` meets its contract: the loop's invariant: the partitions below `i` are no slots. Assumes nothing.
-use Prim.Native.Nat.{◌≤◌, ◌-◌}
 use mathlib.Core.Path.{◌≡◌, refl, sym, ap, ◌∙◌}
-use mathlib.Core.Bool.{true, not}
+use mathlib.Core.Bool.{not}
 use native.Mathlib.Omega.{arith}
 use Rattle.laws.specs.Below.{all_below}
 use Rattle.laws.proofs.Below.{all_step, all_fails}

@@ -1,7 +1,7 @@
 -- `reason::torn_reason` meets its contract: at the header, the entry and the pair that were read. Assumes nothing.
 use Prim.Native.Nat.{◌+◌, ◌≤◌, ◌<◌}
 use native.Mathlib.Omega.{arith}
-use Rattle.reason.proofs.Laws.{some_here, torn_fits, torn_is}
+use Rattle.reason.proofs.Laws.{some_here, torn_fits}
 use Rattle.reason.proofs.torn_reason.Goals as goal
 use Rattle.reason.proofs.torn_reason.Goals.{After-torn_pair-pair}
 

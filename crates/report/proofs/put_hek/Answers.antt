@@ -1,7 +1,6 @@
 -- `report::put_hek` meets its contract: the two cases of the last line. Assumes nothing.
 use mathlib.Core.Path.{sym, ◌∙◌}
 use native.Mathlib.Omega.{arith}
-use borrow.Author.Tests.{not-true, not-false}
 use Rattle.laws.specs.Put.{then}
 use Rattle.report.proofs.Laws.{hek_none, hek_some}
 use Rattle.report.proofs.put_hek.Goals as goal

@@ -1,5 +1,5 @@
 -- `report::put_table` meets its contract: the loop's invariant: the lines of the partitions below `i` stand behind the header. Assumes nothing.
-use Prim.Native.Nat.{◌+◌, ◌*◌, ◌≤◌, ◌-◌}
+use Prim.Native.Nat.{◌≤◌}
 use mathlib.Core.Path.{◌≡◌, sym, ap}
 use native.Mathlib.Omega.{arith}
 use Rattle.map.specs.Map.{header_of}
@@ -8,8 +8,7 @@ use Rattle.laws.proofs.Below.{join_step}
 use Rattle.map.specs.declared.Header.{Header}
 use Rattle.map.proofs.Laws.{map_header}
 use Rattle.reader.specs.declared.Fields.{Fields}
-use Rattle.laws.specs.Put.{Put, then, nothing, retext}
-use Rattle.report.specs.Status.{line_at}
+use Rattle.laws.specs.Put.{then, nothing, retext}
 use Rattle.report.proofs.Laws.{line_is, table_is, small_line, small_slot}
 use Rattle.report.proofs.put_table.Goals as goal
 use Rattle.report.proofs.put_table.Goals.{After-slice_known-2-1}

@@ -1,11 +1,7 @@
 -- `report::read_cells` meets its contract: the loop's invariant: the front of `cells` holds the first `k` numbers, the rest is as it was. Assumes nothing.
-use Prim.Native.Nat.{◌≤◌, ◌-◌}
-use mathlib.Core.Path.{◌≡◌}
-use mathlib.Core.List.{◌++◌}
 use native.Mathlib.Omega.{arith}
-use lib.ListN.{length, drop, length-set}
+use lib.ListN.{length-set}
 use Rattle.laws.specs.Below.{join_below}
-use Rattle.report.specs.Status.{number_at}
 use Rattle.report.proofs.Laws.{stored}
 use Rattle.std.proofs.Common.{rules}
 use Rattle.report.proofs.read_cells.Goals as goal

@@ -2,11 +2,9 @@
 use Prim.Native.Nat.{◌≤◌, ◌-◌}
 use mathlib.Core.Path.{◌≡◌}
 use mathlib.Core.List.{◌++◌}
-use native.Mathlib.Omega.{arith}
-use lib.ListN.{length, drop, length-set}
+use lib.ListN.{length, drop}
 use Rattle.laws.specs.Below.{join_below}
 use Rattle.report.specs.Status.{number_at}
-use Rattle.report.proofs.Laws.{stored}
 use Rattle.report.proofs.read_cells.Given as goal
 
 abbrev pub invariant-loop-k : goal.invariant-loop-k

@@ -1,12 +1,9 @@
 -- `report::report_map` meets its contract: by the answer of `write_map`, lent the front of the buffer. Assumes nothing.
-use mathlib.Core.Path.{◌≡◌, sym, ap, ◌∙◌}
+use mathlib.Core.Path.{sym, ap, ◌∙◌}
 use native.Mathlib.Omega.{arith}
 use lib.ListN.{length-take}
 use Rattle.context.specs.State.{outcome}
 use Rattle.plan.specs.declared.Answer.{Answer}
-use Rattle.plan.specs.declared.Answer.TheVariants.{Refused}
-use Rattle.plan.specs.Writing.{writing_of}
-use Rattle.report.specs.Maps.{part}
 use Rattle.report.proofs.Maps.{image_told, number_most, refusal_told}
 use Rattle.report.proofs.report_map.Goals as goal
 

@@ -1,16 +1,14 @@
 -- `states::put_states` meets its contract: the loop's invariant: the front of each array lists the partitions below `i`, the rest is as it was. Assumes nothing.
-use Prim.Native.Nat.{◌≤◌, ◌-◌}
+use Prim.Native.Nat.{◌≤◌}
 use mathlib.Core.Path.{◌≡◌, ap}
-use mathlib.Core.List.{◌++◌}
 use native.Mathlib.Omega.{arith}
-use lib.ListN.{length, drop, length-set}
+use lib.ListN.{length-set}
 use Rattle.laws.specs.Below.{join_below}
 use Rattle.map.specs.Map.{header_of}
 use Rattle.map.proofs.Laws.{map_header}
 use Rattle.map.specs.declared.Header.{Header}
 use Rattle.partition.specs.declared.Survey.{Survey}
 use Rattle.drive.specs.Laws.{short_most}
-use Rattle.states.specs.States.{state_in, short_in}
 use Rattle.states.specs.Laws.{state_stored, short_stored}
 use Rattle.std.proofs.Common.{rules}
 use Rattle.states.proofs.put_states.Goals as goal

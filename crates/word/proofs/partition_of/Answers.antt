@@ -1,12 +1,9 @@
 -- `word::partition_of` meets its contract: the loop's invariant: the search from `i` on answers for the whole. Assumes nothing.
-use Prim.Native.Nat.{◌≤◌, ◌-◌}
 use mathlib.Core.Path.{◌≡◌, sym, ap, ◌∙◌}
 use native.Mathlib.Omega.{arith}
-use Rattle.map.specs.declared.Header.{Header}
 use Rattle.map.specs.declared.Entry.{Entry}
-use Rattle.laws.specs.Below.{first_from}
-use Rattle.laws.proofs.Below.{first_start, first_here, first_next, first_end}
-use Rattle.word.specs.Word.{holds, is_held_at, partition_of}
+use Rattle.laws.proofs.Below.{first_here, first_next, first_end}
+use Rattle.word.specs.Word.{holds, is_held_at}
 use Rattle.word.proofs.partition_of.Goals as goal
 use Rattle.word.proofs.partition_of.Goals.{After-holds_cell}
 

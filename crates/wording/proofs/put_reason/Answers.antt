@@ -1,12 +1,12 @@
 -- `wording::put_reason` meets its contract: a torn slot has a pair, another reason none. Assumes nothing.
 use Prim.Native.Nat.{ℕ}
-use mathlib.Core.Path.{◌≡◌, refl, ap, subst}
+use mathlib.Core.Path.{◌≡◌, refl, ap}
 use mathlib.Core.List.{[]}
 use native.Mathlib.Omega.{arith}
 use Rattle.laws.specs.Put.{then, nothing}
 use Rattle.reason.specs.declared.Reason.{Reason}
 use Rattle.reason.specs.declared.Reason.TheVariants.{Available, NoSlot, AllErased, Blank, Torn, Refused}
-use Rattle.wording.specs.Wording.{pair_words, pair_part, SmallReason}
+use Rattle.wording.specs.Wording.{pair_words, pair_part}
 use Rattle.wording.proofs.put_reason.Goals as goal
 
 -- the variants of the other reasons, and that none of them has a pair
