@@ -1,11 +1,11 @@
-// The run of burns that erases a partition, over the partition's cells from where it starts:
-// indicator, data words ascending, digest, each burned by the one function that burns a word. A cut
-// erasure is this run with a mask at the burn where the power fails and nothing after it; an erasure
-// that is not cut is this run with a cut that no order reaches. The definitions are in `specs/Run`,
-// the laws of the loop in `specs/Turns`, what a run does to each cell in `specs/Cells`, that it adds to
-// the set fuses what it reports in `specs/Charge`, when a run stops after its first burn and what that
-// leaves in `specs/Stops`, what any number of runs leaves in `specs/Safe`, how a run ends and after how
-// many burns in `specs/Ends`. It rests on `fuse`, `partition` and `laws`.
+// The run of burns that erases a partition, over the partition's cells from where it starts: indicator,
+// data words ascending, digest, each burned by the one function that burns a word. A cut erasure is
+// this run with a mask at the burn where the power fails and nothing after it; an erasure that is not
+// cut is this run with a cut that no order reaches. The definitions are in `specs/Run`, the laws of the
+// loop in `proofs/Turns`, what a run does to each cell in `proofs/Cells`, that it adds to the set fuses
+// what it reports in `proofs/Charge`, when a run stops after its first burn and what that leaves in
+// `proofs/Stops`, what any number of runs leaves in `proofs/Safe`, how a run ends and after how many
+// burns in `proofs/Ends`. It rests on `fuse`, `partition` and `laws`.
 #![tactic(auto)]
 
 ghost use Rattle.std.specs.Prelude.{◌≡◌, ◌+◌, ◌-◌, ◌%◌, ◌<◌, ◌≤◌, min, length, get_or};

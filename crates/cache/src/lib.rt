@@ -1,9 +1,9 @@
-// The key cache: 16 places, each empty, waiting, held or unsure, all but an empty one with a 64-bit tag;
-// and the reply that is awaited of the engine. Both lie in their part of the context, and no function
-// here changes another part of it. An emptied place keeps no tag. Every public function answers for any
-// words: a kind that is never written counts as unsure, and such an awaited number as an awaited reply.
-// The definitions are in `specs/Cache`, the laws for callers in `specs/Laws`. It rests on `context` and
-// `laws`.
+// The key cache: 16 places, each empty, waiting, held or unsure, all but an empty one with a 64-bit
+// tag; and the reply that is awaited of the engine. Both lie in their part of the context, and no
+// function here changes another part of it. An emptied place keeps no tag. Every public function
+// answers for any words: a kind that is never written counts as unsure, and such an awaited number as
+// an awaited reply. The definitions are in `specs/Cache`, the laws for callers in `proofs/Laws`. It
+// rests on `context` and `laws`.
 #![tactic(auto)]
 
 ghost use Rattle.std.specs.Prelude.{◌≡◌, ◌++◌, ◌<◌, ◌≤◌, length, drop, replicate};

@@ -1,6 +1,6 @@
-// The mailbox's messages: which command a code names, a request judged against its command's field
-// list (refusals 3 to 6), its fields read, and a response written by its list. The field lists are in
-// `specs/Fields`, the refusals in `specs/Request`, the laws for callers in `specs/Laws`. It rests on
+// The mailbox's messages: which command a code names, a request judged against its command's field list
+// (refusals 3 to 6), its fields read, and a response written by its list. The field lists are in
+// `specs/Fields`, the refusals in `specs/Request`, the laws for callers in `proofs/Laws`. It rests on
 // `chksum`, `endian` and `laws`.
 #![tactic(auto)]
 

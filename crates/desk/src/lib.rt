@@ -110,8 +110,8 @@ fn print_report(rt: &HostRuntime, program: Program, input: &[u8]) {
     }
 }
 
-// Runs a program: reads all its input, then prints. It is lent nothing and answers nothing, so there is
-// nothing to promise.
+// Runs a program: reads all its input, then prints. It is lent the streams alone and answers nothing, so
+// there is nothing to promise.
 pub fn run(rt: &HostRuntime, program: Program) {
     let mut input = [0u8; 65536];
     match take_in(rt, &mut input) {

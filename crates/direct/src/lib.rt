@@ -1,11 +1,11 @@
-// Direct commands: READ, WRITE and ZEROIZE of one word. A command is judged, the lowest refusal
-// first, and then burns at most its word, by the burn that every other burn of the key block uses.
-// `read`, `write` and `zeroize` carry out one each; `run` takes any, as document 01's enum, and no
-// crate here calls it. All four are entry points: they answer for any bytes and any lengths. So that
-// no secret word and no value that becomes one is left in a dead frame (the test `residue`), `write`
-// looks at both only after the last call that is not inlined, and on the way from C no value lies in
-// a command. The definitions are in `specs/Direct`, the laws in `specs/Laws`. It rests on `drive`,
-// `word`, `context`, `fuse` and what lies below them.
+// Direct commands: READ, WRITE and ZEROIZE of one word. A command is judged, the lowest refusal first,
+// and then burns at most its word, by the burn that every other burn of the key block uses. `read`,
+// `write` and `zeroize` carry out one each; `run` takes any, as document 01's enum, and no crate here
+// calls it. All four are entry points: they answer for any bytes and any lengths. So that no secret
+// word and no value that becomes one is left in a dead frame (the test `residue`), `write` looks at
+// both only after the last call that is not inlined, and on the way from C no value lies in a command.
+// The definitions are in `specs/Direct`, the laws in `proofs/Laws`. It rests on `drive`, `word`,
+// `context`, `fuse` and what lies below them.
 #![tactic(auto)]
 
 ghost use Rattle.std.specs.Prelude.{◌≡◌, ℕ, ◌+◌, ◌≤◌, List, length};

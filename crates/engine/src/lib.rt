@@ -1,5 +1,5 @@
 // The engine: the orders that it gets, what it replies to one, and its block of 128 bytes, built as one
-// array and then written. The definitions are in `specs/Engine`. It rests on `endian`, `laws` and the kit's `bytes`.
+// array and then written. The definitions are in `specs/Engine`. It rests on `endian` and `laws`.
 #![tactic(auto)]
 
 ghost use Rattle.std.specs.Prelude.{◌≡◌, ◌≤◌, length};

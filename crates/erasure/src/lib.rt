@@ -1,10 +1,11 @@
 // The erasure of a partition of a drive, whole or cut by a power failure, and the restart. A call is
 // judged, the lowest refusal first; then the one run of `burns` is made over the partition's part of
 // the array, cut or not. `erase`, `erase_cut` and `restart` are the entry points: they answer for any
-// bytes and any lengths. `erase_judged` serves FERS too. The definitions are in `specs/Erasure`, the laws
-// in `specs/Laws`, what a run leaves of the whole array in `specs/Parts`, what holds of cuts in
-// `specs/Cuts`, what an answer says of the partition in `specs/Ends`, and of the fuses newly set in
-// `specs/Charge`. It rests on `burns`, `drive`, `cache`, `context` and what lies below them.
+// bytes and any lengths. `erase_judged` serves FERS too. The definitions are in `specs/Erasure`, the
+// laws in `proofs/Laws`, what a run leaves of the whole array in `proofs/Parts`, what holds of cuts in
+// `proofs/Cuts`, what an answer says of the partition in `specs/Ends` and `proofs/Leaves`, and of the
+// fuses newly set in `proofs/Charge`. It rests on `burns`, `drive`, `cache`, `context` and what lies
+// below them.
 #![tactic(auto)]
 
 ghost use Rattle.std.specs.Prelude.{◌≡◌, ◌^◌, ◌<◌, ◌≤◌};

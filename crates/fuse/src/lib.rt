@@ -1,7 +1,7 @@
 // Fuses: a cell of 32, a pair of 64, what a burn leaves in them, how many of a pair are set, and how
 // many a burn newly sets. A burn never clears a fuse and never sets a stuck one. The definitions are in
-// `specs/Fuse`, the laws of burning and counting in `specs/Burn`, those of the fuses newly set in
-// `specs/Charge`. It rests on `laws` alone.
+// `specs/Fuse`, the laws of burning and counting in `proofs/Burn`, those of the fuses newly set in
+// `proofs/Charge`. It rests on `laws` alone.
 #![tactic(auto)]
 
 ghost use Rattle.std.specs.Prelude.{◌≡◌, true, false, ◌+◌, ◌-◌, ◌<◌, ◌≤◌, length};

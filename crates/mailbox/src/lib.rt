@@ -1,10 +1,10 @@
-// The mailbox: a code and a request go in; out come a reply with the engine's order, the engine block, a
-// response that is written straight into the lent buffer, and the fuses and the context as the command
-// leaves them. A call is judged (a command's own refusals in `judge`) and its effect found (in `effects`;
-// FERS burns there); then it is written out unless it is refused: a refusal changes nothing, 15 of FERS
-// too, whose burn has set no fuse. `call` answers for any bytes and any lengths. The definitions are in
-// `specs/Mailbox`, the laws in `specs/Judging`, `Laws`, `Told` and `Handles`. It rests on `codec`,
-// `engine`, `erasure`, `handles` and what lies below them.
+// The mailbox: a code and a request go in; out come a reply with the engine's order, the engine block,
+// a response that is written straight into the lent buffer, and the fuses and the context as the
+// command leaves them. A call is judged (a command's own refusals in `judge`) and its effect found (in
+// `effects`; FERS burns there); then it is written out unless it is refused: a refusal changes nothing,
+// 15 of FERS too, whose burn has set no fuse. `call` answers for any bytes and any lengths. The
+// definitions are in `specs/Mailbox`, the laws in `proofs/Judging`, `Laws`, `Told` and `Handles`. It
+// rests on `codec`, `engine`, `erasure`, `handles` and what lies below them.
 #![tactic(auto)]
 
 mod effects;

@@ -1,7 +1,7 @@
-// The map of the fuses: an image of bytes, judged by every rule of the document and read. Each
-// public function answers for any bytes of any length; only a good map's fields mean anything. The
-// rules are in `specs/Map`, what a good map gives its callers in `specs/Laws`, what maps that differ
-// in flag 8 alone have in common in `specs/Guides`. It rests on `endian` and `laws`.
+// The map of the fuses: an image of bytes, judged by every rule of the document and read. Each public
+// function answers for any bytes of any length; only a good map's fields mean anything. The rules are
+// in `specs/Map`, what a good map gives its callers in `proofs/Laws`, what maps that differ in flag 8
+// alone have in common in `proofs/Guides`. It rests on `endian` and `laws`.
 #![tactic(auto)]
 
 ghost use Rattle.std.specs.Prelude.{◌≡◌, ◌+◌, ◌*◌, ◌^◌, ◌<◌, ◌≤◌, length};

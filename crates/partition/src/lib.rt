@@ -1,8 +1,8 @@
 // One partition's cells, from where the partition starts: its short pairs, whether it is marked, and
 // its state. Each pair is counted whole against the bound; nothing is summed over the partition. The
-// definitions are in `specs/Partition`, the laws for callers in `specs/Laws`, those of marked, and of
-// the states by it, in `specs/Marked`. It rests on `fuse` and `laws`. Every public function answers for
-// any number of cells.
+// definitions are in `specs/Partition`, the laws for callers in `proofs/Laws`, those of marked, and of
+// the states by it, in `proofs/Marked`. It rests on `fuse` and `laws`. Every public function answers
+// for any number of cells.
 #![tactic(auto)]
 
 ghost use Rattle.std.specs.Prelude.{◌≡◌, ◌+◌, ◌*◌, ◌<◌, ◌≤◌, length};

@@ -1,9 +1,9 @@
 // A map as its planner types it, a text, becomes an image with E = 8 in a lent buffer. The text is read
-// once, byte after byte: its numbers are kept as far as a map can have them, and counted past that.
-// The text's form is in `specs/Form`, the reading in `specs/Reading`, the image and the refusals in
-// `specs/Writing`; that an image is written exactly when some good map has the text's fields is in
-// `specs/Exactly`. It rests on `map`, `endian` and `laws`, and for its definitions on `text` and on the
-// outcome of `context`.
+// once, byte after byte: its numbers are kept as far as a map can have them, and counted past that. The
+// text's form is in `specs/Form`, the reading in `specs/Reading`, the image and the refusals in
+// `specs/Writing`; that an image is written exactly when some good map has the text's fields is claimed
+// in `specs/Exactly` and proved in `proofs/Exactly`. It rests on `map`, `endian` and `laws`, and for
+// its definitions on `text` and on the outcome of `context`.
 #![tactic(auto)]
 
 ghost use Rattle.std.specs.Prelude.{◌+◌, ◌*◌, ◌≤◌, ◌≡◌, true, ◌++◌, ltb, length, take};

@@ -1,8 +1,7 @@
 // The map reader: it borrows a map image and answers the image's fields in place, without copying
-// it. Its methods take it apart and call the covered functions of `map`; each is proved by a walk of
-// its own, by hand (`proofs/MapReader`). `fields_of` has plain parameters, so that its callers need no
-// walk, and `read_partition` is the entry point: it refuses a bad map and a partition that is not
-// there. The definitions are in `specs/Reader`. It rests on `map`, and below it on `endian` and `laws`.
+// it. Its methods take it apart and call the functions of `map`. `fields_of` has plain parameters, and
+// `read_partition` is the entry point: it refuses a bad map and a partition that is not there. The
+// definitions are in `specs/Reader`. It rests on `map`, and below it on `endian` and `laws`.
 #![tactic(auto)]
 
 ghost use Rattle.std.specs.Prelude.{◌≡◌};

@@ -1,9 +1,9 @@
-// Why a drive offers no HEK (request P1): the map has no slot, all slots are erased, or the active
-// slot is blank or torn, torn with its first short pair. The entry point is `find_reason`, which
-// answers for any bytes and any lengths and is lent nothing to change; `reason_in` is for callers
-// that have judged the drive. The definitions are in `specs/Reason`, the laws in `specs/Laws`, and
-// that each reason is given exactly when it holds in `specs/Exactly`. It rests on `drive`, `map` and
-// `partition`, and below them on `cache`, `context`, `endian`, `fuse` and `laws`.
+// Why a drive offers no HEK (request P1): the map has no slot, all slots are erased, or the active slot
+// is blank or torn, torn with its first short pair. The entry point is `find_reason`, which answers for
+// any bytes and any lengths and is lent nothing to change; `reason_in` is for callers that have judged
+// the drive. The definitions are in `specs/Reason`, the laws in `proofs/Laws`, and that each reason is
+// given exactly when it holds in `specs/Exactly`, proved in `proofs/Exactly`. It rests on `drive`,
+// `map` and `partition`, and below them on `cache`, `context`, `endian`, `fuse` and `laws`.
 #![tactic(auto)]
 
 ghost use Rattle.std.specs.Prelude.{◌≡◌, ◌<◌};

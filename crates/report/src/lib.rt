@@ -1,8 +1,8 @@
 // What the desk's programs answer: the bytes that they read go in, the bytes that they print come out
 // in a lent buffer, and so do the lines that they say on standard error. Reading, judging and every
 // printed byte are decided here; the programs only move bytes. The definitions are in `specs/Status`,
-// of all programs together in `specs/Report`; the laws in `specs/Laws`, `specs/Maps` and
-// `specs/Longer`. It rests on `drive`, `reader`, `map`, `plan`, `partition`, `text` and `wording`, and
+// of all programs together in `specs/Report`; the laws in `proofs/Laws`, `proofs/Maps` and
+// `proofs/Longer`. It rests on `drive`, `reader`, `map`, `plan`, `partition`, `text` and `wording`, and
 // below them on `cache`, `context`, `endian`, `fuse`, `laws` and `reason`.
 #![tactic(auto)]
 

@@ -1,6 +1,6 @@
 // Text in a lent buffer, piece after piece: bytes as they are, and numbers in decimal. Bytes outside
-// the piece keep their values. The definitions are in `specs/Text`, and in `laws` `specs/Put`. It
-// rests on the kit's `bytes` and on `laws`.
+// the piece keep their values. The definitions are in `specs/Text`, and in `laws` `specs/Put`. It rests
+// on `laws` alone.
 #![tactic(auto)]
 
 ghost use Rattle.std.specs.Prelude.{◌+◌, ◌≤◌, ◌<◌, ◌≡◌, ◌++◌, length};

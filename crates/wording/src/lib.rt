@@ -1,7 +1,7 @@
-// A reason in words: the line that tells the desk why a drive offers no HEK (request P1), of a torn slot
-// with its pair; and a refusal, which every program prints so. The words are in `specs/Wording`, the
-// laws in `specs/Laws`. It rests on `reason`, `map` and `text`, and below them on `cache`, `context`,
-// `drive`, `endian`, `fuse`, `laws` and `partition`.
+// A reason in words: the line that tells the desk why a drive offers no HEK (request P1), of a torn
+// slot with its pair; and a refusal, which every program prints so. The words are in `specs/Wording`,
+// the laws in `proofs/Laws`. It rests on `reason`, `map` and `text`, and below them on `cache`,
+// `context`, `drive`, `endian`, `fuse`, `laws` and `partition`.
 #![tactic(auto)]
 
 ghost use Rattle.std.specs.Prelude.{◌++◌, ◌+◌, ◌≤◌, ◌<◌, length};
