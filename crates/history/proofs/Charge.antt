@@ -1,5 +1,5 @@
--- Request P8: "Over any number of cut and uncut attempts the sum equals set fuses after minus set fuses before". First the claim, over every
--- list of calls of every entry point, demand 3's histories of attempts and restarts among them; then its proof. Cells and marks are any
+-- Request P8: "Over any number of cut and uncut attempts the sum equals set fuses after minus set fuses before". Here is the proof, over every
+-- list of calls of every entry point, demand 3's histories of attempts and restarts among them. Cells and marks are any
 -- numbers. Assumes nothing.
 -- The definitions stand in specs/Charge.antt.
 use Rattle.std.specs.Prelude.{ℕ, ◌+◌, ◌≡◌, Bool, false, List, [], ◌∷◌, eqb, length}
@@ -147,7 +147,7 @@ module _ (image marks : List ℕ) (s : State) where
       (λ _. cond_keeps (λ (a : Answer). Tells a new) (short _ _) Withheld (Shown _) (λ _ y. absurd (false≢true y)) (λ _ y. absurd (false≢true y)))
       (λ _ _. refl)
 
-  -- it is what its burn reports; in a secret partition there is none (`Secrets` new-hidden)
+  -- it is what its burn reports; in a secret partition there is none (`Secrets` `new_hidden`)
   pub direct_tells : (command : Command) → Tells (direct_of image marks command s).told (report_of image marks (Direct command) s)
   direct_tells command =
       let found = word_at image (cell_of command) in

@@ -1,5 +1,5 @@
--- Request P8: "Over any number of cut and uncut attempts the sum equals set fuses after minus set fuses before". First the claim, over every
--- list of calls of every entry point, demand 3's histories of attempts and restarts among them; then its proof. Cells and marks are any
+-- Request P8: "Over any number of cut and uncut attempts the sum equals set fuses after minus set fuses before". Here is the claim, over every
+-- list of calls of every entry point, demand 3's histories of attempts and restarts among them. Cells and marks are any
 -- numbers. Assumes nothing.
 -- The theorems stand in proofs/Charge.antt.
 use Rattle.std.specs.Prelude.{ℕ, ◌+◌, ◌≡◌, Bool, false, cond, List, [], ◌∷◌, eqb, length}

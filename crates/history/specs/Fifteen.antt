@@ -1,5 +1,5 @@
--- Request P4: "15 is given exactly when no indicator fuse is set after its burn". First the claim, of every call of every entry point; then
--- its proof. That 15 leaves every cell is `refused_unchanged`, that it tells one burn `erasure` burns-told. Assumes nothing.
+-- Request P4: "15 is given exactly when no indicator fuse is set after its burn". Here is the claim, of every call of every entry point.
+-- That 15 leaves every cell is `refused_unchanged`, that it tells one burn `erasure` `burns_told`. Assumes nothing.
 -- The theorems stand in proofs/Fifteen.antt.
 use Rattle.std.specs.Prelude.{ℕ, ◌≤◌, ◌≡◌, ◌⊎◌, ◌↔◌, List}
 use Rattle.context.specs.State.{State}

@@ -1,5 +1,5 @@
 -- Document 02, request P2, "Write the map", as one claim in the request's words: what is answered and written for every text and every
--- buffer. First the claim, then its proof. Assumes nothing.
+-- buffer. Here is its proof. Assumes nothing.
 -- The definitions stand in specs/Exactly.antt.
 use Rattle.std.specs.Prelude.{ℕ, ◌<◌, ◌≡◌, refl, ◌⊎◌, ◌↔◌, true, false, not, List, ◌++◌, length, take, drop, ltb}
 use Rattle.std.proofs.Common.{sym, ap, subst, ◌∙◌, inl, inr, ⊎_elim, arith, length-append, length-drop, take_at, drop_at, ltb-true, ltb-false}

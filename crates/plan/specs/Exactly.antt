@@ -1,5 +1,5 @@
 -- Document 02, request P2, "Write the map", as one claim in the request's words: what is answered and written for every text and every
--- buffer. First the claim, then its proof. Assumes nothing.
+-- buffer. Here is the claim. Assumes nothing.
 -- The theorems stand in proofs/Exactly.antt.
 use Rattle.std.specs.Prelude.{ℕ, ◌≤◌, ◌<◌, ◌≡◌, ◌⊎◌, ◌↔◌, List, length, take, drop}
 use Rattle.map.specs.Map.{header_of}

@@ -1,5 +1,5 @@
--- Document 02, request P1: "Each is given exactly when it holds, and none when the HEK is available". First the claim: when each reason
--- holds, in the request's words over the definitions of slot and state, and that it is given exactly then. Then its proof. Assumes nothing.
+-- Document 02, request P1: "Each is given exactly when it holds, and none when the HEK is available". Here is the proof of the claim: when each reason
+-- holds, in the request's words over the definitions of slot and state, and that it is given exactly then. Assumes nothing.
 -- The definitions stand in specs/Exactly.antt.
 use Rattle.std.specs.Prelude.{ℕ, ◌+◌, ◌*◌, ◌≤◌, ◌<◌, ◌≡◌, refl, ◌⊎◌, ◌↔◌, Bool, cond, List, length}
 use Rattle.std.proofs.Common.{sym, subst, ◌∙◌, inl, inr, ⊎_elim, arith, length-take}

@@ -1,5 +1,5 @@
--- Document 02, request P1: "Each is given exactly when it holds, and none when the HEK is available". First the claim: when each reason
--- holds, in the request's words over the definitions of slot and state, and that it is given exactly then. Then its proof. Assumes nothing.
+-- Document 02, request P1: "Each is given exactly when it holds, and none when the HEK is available". Here is the claim: when each reason
+-- holds, in the request's words over the definitions of slot and state, and that it is given exactly then. Assumes nothing.
 -- The theorems stand in proofs/Exactly.antt.
 use Rattle.std.specs.Prelude.{ℕ, ◌+◌, ◌*◌, ◌≤◌, ◌<◌, ◌≡◌, ◌⊎◌, ◌↔◌, List}
 use Rattle.std.proofs.Math.Bool.{true, false}
