@@ -99,6 +99,8 @@ fn is_klod_or_kunl(command: Command) -> bool
 }
 
 // Refusals 17 and 18.
+// Not inlined: in the one frame of the mailbox its words would lie under every command (docs/STACK.md).
+#[inline(never)]
 fn engine_refusal(command: Command, context: &Context) -> u32
     ensures { result ≡ number_of (engine_tests command context.now) }
 {
@@ -112,6 +114,8 @@ fn engine_refusal(command: Command, context: &Context) -> u32
 }
 
 // Refusals 20 and 21, of RHPK.
+// Not inlined, as `engine_refusal`.
+#[inline(never)]
 fn rotation_refusal(context: &Context, request: &[u8]) -> u32
     ensures { result ≡ number_of (rotation_tests (table_of context.now) request.now) }
 {
