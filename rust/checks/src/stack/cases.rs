@@ -10,7 +10,7 @@ use crate::{lent, texts};
 use model::Command::{Read, Write, Zeroize};
 use model::EngineReply::{self, Done, TimedOut};
 use model::Mail::{Clkc, Ehdl, Fsta, Klod, Kunl, Rhpk};
-use model::{Call, Cut, Erase, KeyBlock, Lent, Mail, Model, Request, Table, Values};
+use model::{Call, Cut, Erase, KeyBlock, Lent, Mail, Model, Place, Request, Table, Values, PLACES};
 use model::{HARDWARE, SOFTWARE};
 use sciambrunola::LONGEST_IMAGE;
 use std::ops::RangeInclusive;
@@ -138,6 +138,13 @@ fn waiting(mut lent: Lent) -> Lent {
     lent
 }
 
+/// The same where no reply is awaited and the last place alone waits, so that all are looked at.
+fn last_waits(mut lent: Lent) -> Lent {
+    lent.cache.awaited = None;
+    lent.cache.places[PLACES - 1] = Place::Waiting(0);
+    lent
+}
+
 /// The same where every place that is held is unsure.
 fn unsure(lent: Lent) -> Lent {
     let mut lent = waiting(lent);
@@ -192,6 +199,7 @@ fn clkc() -> Vec<Case> {
         mail("CLKC refused 6", large(ALL), plain(Clkc, 1)),
         mail("CLKC clear", unsure(large(ALL)), plain(Clkc, 0)),
         mail("CLKC refused 17", waiting(large(ALL)), plain(Clkc, 0)),
+        mail("CLKC refused 17", last_waits(large(ALL)), plain(Clkc, 0)),
     ]
 }
 
@@ -252,6 +260,7 @@ fn ehdl() -> Vec<Case> {
         mail("EHDL refused 6", small([1]), plain(Ehdl, 1)),
         mail("EHDL refused 6", large(ALL), plain(Ehdl, 1)),
         mail("EHDL refused 17", waiting(large(ALL)), plain(Ehdl, 0)),
+        mail("EHDL refused 17", last_waits(large(ALL)), plain(Ehdl, 0)),
     ]
 }
 
