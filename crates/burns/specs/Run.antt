@@ -93,9 +93,6 @@ value_of j k mask = cond (eqb j k) mask all_ones
 abbrev pub end_of : (j k : ℕ) → End
 end_of j k = cond (eqb j k) Cut Whole
 
-abbrev pub as_report : End → (burns new : ℕ) → Report
-as_report end burns new = record { end = end; burns = burns; new = new }
-
 -- what the code reports of a run, with the cells that it left
 abbrev pub ran_as : Report → (cells : List ℕ) → Ran
 ran_as r cells = ran r.end (tally_of cells r.burns r.new)

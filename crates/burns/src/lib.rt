@@ -10,7 +10,7 @@
 
 ghost use Rattle.std.specs.Prelude.{◌≡◌, ◌+◌, ◌-◌, ◌%◌, ◌<◌, ◌≤◌, min, length, get_or};
 ghost use Rattle.fuse.specs.Fuse.{cells_in};
-ghost use Rattle.burns.specs.Run.{pair_from, order, goes_on, place_of, value_of, end_of, as_report, ran_as, run};
+ghost use Rattle.burns.specs.Run.{pair_from, order, goes_on, place_of, value_of, end_of, ran_as, run};
 
 // A word of a partition: its first cell, counted from where the partition starts, and whether it is a
 // pair or one cell.
@@ -36,16 +36,7 @@ pub struct Report {
     pub new: u32,
 }
 
-// How many burns the order of a partition of `n` cells has.
-fn burn_count(n: usize, software: bool) -> usize
-    requires { 4 ≤ n }
-    ensures { result ≡ length (order software n) }
-{
-    if software {
-        return n - 4 + 2;
-    }
-    (n - 4) / 2 + 2
-}
+// `n`, `software`, `k` and `mask` stay parameters: no three functions take the same two of them.
 
 // The first cell of what burn number `j` burns after the indicator: data words, and the digest behind
 // them.
@@ -64,7 +55,7 @@ fn word_at(n: usize, software: bool, j: usize) -> Word
 {
     let at = place_of(software, j);
     Word {
-        at: at,
+        at,
         wide: !software | (at == n - 4),
     }
 }
@@ -77,13 +68,13 @@ fn goes_on(cells: &[u32]) -> bool
 }
 
 // The number of a run's last burn, where the indicator does not stop it: the one that is cut, or the
-// digest's.
+// digest's, which follows the data words.
 fn last_burn(n: usize, software: bool, k: usize) -> usize
     requires { 4 ≤ n }
     ensures { result ≡ min k (length (order software n) - 1) }
 {
-    let digest = burn_count(n, software) - 1;
-    if k < digest { k } else { digest }
+    let data_words = if software { n - 4 } else { (n - 4) / 2 };
+    k.min(data_words + 1)
 }
 
 // What burn number `j` burns: all ones, or the mask where it is the one that is cut.
@@ -100,17 +91,6 @@ fn end_of(j: usize, k: usize) -> End
     if j == k { End::Cut } else { End::Whole }
 }
 
-// What is told of a run.
-fn told(end: End, burns: usize, new: u32) -> Report
-    ensures { result ≡ as_report end burns new }
-{
-    Report {
-        end: end,
-        burns: burns,
-        new: new,
-    }
-}
-
 // The run over a partition's cells and marks: all ones into each word, but the mask into the one that
 // burn number `k` burns, and nothing after it. The loop burns words of one width, so that the compiler
 // takes several at once: the indicator comes before it, and the last burn behind it.
@@ -121,19 +101,29 @@ pub fn run(cells: &mut [u32], marks: &[u32], software: bool, k: usize, mask: u64
     let n = cells.len();
     let mut new = fuse::burn_word(cells, marks, n - 2, true, value_of(0, k, mask));
     if k == 0 {
-        return told(End::Cut, 1, new);
+        return Report {
+            end: End::Cut,
+            burns: 1,
+            new,
+        };
     }
     if !goes_on(cells) {
-        return told(End::Stopped, 1, new);
+        return Report {
+            end: End::Stopped,
+            burns: 1,
+            new,
+        };
     }
     let last = last_burn(n, software, k);
-    let mut burns: usize = 1;
-    while burns < last {
-        let at = place_of(software, burns);
+    for j in 1..last {
+        let at = place_of(software, j);
         new += fuse::burn_word(cells, marks, at, !software, fuse::ALL_ONES);
-        burns += 1;
     }
-    let word = word_at(n, software, burns);
-    new += fuse::burn_word(cells, marks, word.at, word.wide, value_of(burns, k, mask));
-    told(end_of(burns, k), burns + 1, new)
+    let word = word_at(n, software, last);
+    new += fuse::burn_word(cells, marks, word.at, word.wide, value_of(last, k, mask));
+    Report {
+        end: end_of(last, k),
+        burns: last + 1,
+        new,
+    }
 }

@@ -1,10 +1,10 @@
 -- The cache's laws: a place as the code reads it, a place that is set, places that are turned, what a search tells, and which places are
 -- occupied afterwards. Assumes nothing.
-use Rattle.std.specs.Prelude.{ℕ, zero, suc, ◌+◌, ◌≤◌, ◌<◌, ◌≡◌, refl, true, false, not, List, ◌++◌, eqb, length, get_or, set, drop, replicate}
+use Rattle.std.specs.Prelude.{ℕ, zero, suc, ◌+◌, ◌≤◌, ◌<◌, ◌≡◌, refl, true, false, not, List, ◌++◌, eqb, length, get_or, set, take, drop, replicate}
 use Rattle.std.proofs.Math.Path.{sym, ap₂}
 use Rattle.std.proofs.Common.{ap, subst, ◌∙◌, ⊎_elim, inr, arith, add-one, get_or-set_other, drop-cons, drop-set-lt, lt-ltb, le-ltb, ltb-true, eqb-true, ne_eqb}
 use Rattle.std.proofs.lemmas.Bool.{false≢true}
-use Rattle.std.proofs.lemmas.List.{length-replicate, replicate-append-replicate, set_at, set-get_or}
+use Rattle.std.proofs.lemmas.List.{append-nil, drop_all, length-replicate, length-take-le, replicate-append-replicate, set_at, set-get_or}
 use Rattle.std.proofs.Math.Seq.{append_snoc}
 use Rattle.laws.specs.Tests.{decided, lt_or_le, and, not_yes, cond_keeps}
 use Rattle.laws.specs.Below.{first_from}
@@ -153,6 +153,13 @@ zeros_next k context before l e =
     rw (e, drop-cons before k 0, set_at (replicate k 0) (get_or before k 0) (drop (suc k) before) 0 k (length-replicate k 0))
     (sym (append_snoc (replicate k 0) 0 (drop (suc k) before))
     ∙ ap₂ (λ (zeros rest : List ℕ). zeros ++ rest) (replicate-append-replicate k 1 0) (ap (λ (n : ℕ). drop n before) (sym (add-one k))))
+
+-- once all of a part's words are, the part is zeros
+pub zeros_end : (n k : ℕ) (context before : List ℕ) → n ≤ length before → length (take n before) ≤ k → k ≤ length (take n before)
+    → context ≡ replicate k 0 ++ drop k (take n before) → context ++ drop n before ≡ replicate n 0 ++ drop n before
+zeros_end n k context before l most least e =
+    let whole : k ≡ n = omega (arith, length-take-le n before l) in
+    rw (e, whole, drop_all n (take n before) (omega (arith, length-take-le n before l)), append-nil) refl
 
 -- ---- a place of those sought
 

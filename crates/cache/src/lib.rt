@@ -7,14 +7,16 @@
 #![tactic(auto)]
 
 ghost use Rattle.std.specs.Prelude.{◌≡◌, ◌++◌, ◌<◌, ◌≤◌, length, drop, replicate};
+ghost use Rattle.laws.specs.Below.{found};
 ghost use Rattle.cache.specs.Cache.{cache_of, is_at, kind_is, lowest_place, has_place, busy, place_by, place_at, placed, kept_tag, turned_at, turned_below, waiting_at, clearing, settled, emptied};
 
 use context::Context;
 
-// The places. A search that finds none answers their number.
+// How many places there are.
 pub const PLACES: u32 = 16;
 
 // What a place is. Any other number counts as unsure.
+// Kept as numbers: they are words of the lent context, and `settle` and `wait_at` answer for every number.
 pub const EMPTY: u64 = 0;
 
 pub const HELD: u64 = 1;
@@ -37,6 +39,7 @@ const PLACES_WORDS: usize = context::AWAITED;
 
 // The places that a search is after: the empty ones, those that are not, those that wait, those that
 // are unsure, those that are not empty and have a tag.
+// Kept as an enum, not a closure: the definitions and the contracts (`lowest_place`, `kind_is`) name it.
 #[derive(Clone, Copy)]
 pub enum Sought {
     Empty,
@@ -69,36 +72,30 @@ fn kind_is(sought: Sought, kind: u64, tag: u64) -> bool
 }
 
 // Whether place `k` is one of those sought.
-fn is_at(context: &Context, sought: Sought, k: usize) -> bool
+fn is_at(context: &Context, sought: Sought, k: u32) -> bool
     requires { k < 16 }
     ensures { result ≡ is_at (cache_of context.now) sought k }
 {
+    let at = k as usize;
     kind_is(
         sought,
-        context[context::KINDS + k],
-        context[context::TAGS + k],
+        context[context::KINDS + at],
+        context[context::TAGS + at],
     )
 }
 
-// The lowest place of those sought, 16 where there is none.
-pub fn lowest_place(context: &Context, sought: Sought) -> u32
-    ensures { (result ≡ lowest_place (cache_of context.now) sought) × (result ≤ 16) }
+// The lowest place of those sought.
+pub fn lowest_place(context: &Context, sought: Sought) -> Option<u32>
+    ensures { result ≡ found 16 (lowest_place (cache_of context.now) sought) }
 {
-    let mut k: usize = 0;
-    while k < 16 {
-        if is_at(context, sought, k) {
-            return k as u32;
-        }
-        k += 1;
-    }
-    PLACES
+    (0..PLACES).find(|k| is_at(context, sought, *k))
 }
 
 // Whether there is a place of those sought.
 pub fn has_place(context: &Context, sought: Sought) -> bool
     ensures { result ≡ has_place (cache_of context.now) sought }
 {
-    lowest_place(context, sought) < PLACES
+    lowest_place(context, sought).is_some()
 }
 
 // The number of the awaited reply, `NO_REPLY` where none is.
@@ -119,16 +116,12 @@ pub fn is_busy(context: &Context) -> bool
 fn place_by(kind: u64, tag: u64) -> Place
     ensures { result ≡ place_by kind tag }
 {
-    if kind == EMPTY {
-        return Place::Empty;
+    match kind {
+        EMPTY => Place::Empty,
+        HELD => Place::Held(tag),
+        WAITING => Place::Waiting(tag),
+        _ => Place::Unsure(tag),
     }
-    if kind == HELD {
-        return Place::Held(tag);
-    }
-    if kind == WAITING {
-        return Place::Waiting(tag);
-    }
-    Place::Unsure(tag)
 }
 
 // What place `k` is, with its tag. There is no place past 15, and it is told as an empty one.
@@ -147,8 +140,9 @@ fn put_place(context: &mut Context, k: u32, kind: u64, tag: u64)
     ensures { context.new ≡ placed k kind tag context.old }
 {
     if k < PLACES {
-        context[context::KINDS + (k as usize)] = kind;
-        context[context::TAGS + (k as usize)] = tag;
+        let at = k as usize;
+        context[context::KINDS + at] = kind;
+        context[context::TAGS + at] = tag;
     }
 }
 
@@ -164,7 +158,7 @@ fn turn_place(context: &mut Context, sought: Sought, kind: u64, k: u32)
     requires { k < 16 }
     ensures { context.new ≡ turned_at sought kind k context.old }
 {
-    if is_at(context, sought, k as usize) {
+    if is_at(context, sought, k) {
         let tag = kept_tag(kind, context[context::TAGS + (k as usize)]);
         put_place(context, k, kind, tag);
     }
@@ -174,10 +168,8 @@ fn turn_place(context: &mut Context, sought: Sought, kind: u64, k: u32)
 fn turn_places(context: &mut Context, sought: Sought, kind: u64)
     ensures { context.new ≡ turned_below sought kind 16 context.old }
 {
-    let mut k: u32 = 0;
-    while k < PLACES {
+    for k in 0..PLACES {
         turn_place(context, sought, kind, k);
-        k += 1;
     }
 }
 
@@ -205,24 +197,14 @@ pub fn settle(context: &mut Context, kind: u64)
     context[context::AWAITED] = NO_REPLY;
 }
 
-// Makes the first `count` words 0.
-fn empty_words(words: &mut [u64], count: usize)
-    requires { count ≤ length words.old }
-    ensures { words.new ≡ replicate count 0 ++ drop count words.old }
-{
-    let mut k: usize = 0;
-    while k < count {
-        words[k] = EMPTY;
-        k += 1;
-    }
-}
-
 // Empties every place and drops an awaited reply. (The one word more is stored under a test of its own:
 // without it all are compiled to a call of `memset`, and the archive needs no symbol of others.)
 pub fn clear(context: &mut Context)
     ensures { context.new ≡ emptied context.old }
 {
-    empty_words(context, PLACES_WORDS);
+    for word in &mut context[..PLACES_WORDS] {
+        *word = EMPTY;
+    }
     if awaited(context) != NO_REPLY {
         context[context::AWAITED] = NO_REPLY;
     }

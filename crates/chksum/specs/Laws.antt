@@ -1,9 +1,15 @@
--- The laws of the sums: a step of the loop, and what a closed response is. Assumes nothing.
-use Rattle.std.specs.Prelude.{◌≡◌, ℕ, ◌+◌, ◌<◌, List, ◌++◌, length, take, drop, slice_index}
-use Rattle.std.proofs.Common.{sym, ap, ◌∙◌, append_assoc, arith, add-one, zero-add, length-append, drop-cons, length-take-le, take_at, drop_at}
+-- The laws of the sums: what wrapping sums come to, and what a closed response is. Assumes nothing.
+use Rattle.std.specs.Prelude.{◌≡◌, ℕ, ◌+◌, ◌%◌, ◌^◌, ◌<◌, List, [], ◌∷◌, ◌++◌, length, take, drop, slice_index}
+use Rattle.std.specs.List.{fold}
+use Rattle.std.proofs.Common.{sym, ap, ◌∙◌, append_assoc, arith, add-one, drop-cons, zero-add, length-append, length-take-le, take_at, drop_at}
 use Rattle.laws.specs.Put.{Put, put_at}
 use Rattle.endian.specs.Endian.{bytes4}
 use Rattle.chksum.specs.Chksum.{sum_bytes, minus, response_sum, summed, closed}
+
+-- bytes added one by one, each time wrapping, make their sum
+pub adds_up : (start : ℕ) (bytes : List ℕ) → fold (λ sum byte. (sum + byte) % 2 ^ 32) start bytes % 2 ^ 32 ≡ (start + sum_bytes bytes) % 2 ^ 32
+adds_up start [] = omega arith
+adds_up start (byte ∷ bytes) = omega (arith, adds_up ((start + byte) % 2 ^ 32) bytes)
 
 -- the sum from i on is the byte there and the sum from the next on
 pub sum_step : (bytes : List ℕ) (i : ℕ) → i < length bytes → sum_bytes (drop i bytes) ≡ slice_index bytes i + sum_bytes (drop (i + 1) bytes)

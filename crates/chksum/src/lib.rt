@@ -4,20 +4,20 @@
 #![tactic(auto)]
 
 ghost use Rattle.std.specs.Prelude.{◌≡◌, ◌+◌, ◌%◌, ◌^◌, ◌≤◌, length, drop};
+ghost use Rattle.std.specs.List.{fold};
 ghost use Rattle.endian.specs.Endian.{bytes4};
 ghost use Rattle.chksum.specs.Chksum.{sum_bytes, minus, request_sum, closed};
 
-// The sum of the bytes from `from` on, wrapping in 32 bits.
-fn sum_from(bytes: &[u8], from: usize) -> u32
-    ensures { result ≡ sum_bytes (drop from bytes.now) % 2 ^ 32 }
+// The sum of every byte after chksum on top of `start`, wrapping in 32 bits.
+fn sum_on(start: u32, message: &[u8]) -> u32
+    ensures { result ≡ fold (λ sum byte. (sum + byte) % 2 ^ 32) start (drop 4 message.now) }
 {
-    let mut sum: u32 = 0;
-    let mut i = from;
-    while i < bytes.len() {
-        sum = std::num::wrapping_add_u32(sum, endian::byte_at(bytes, i) as u32);
-        i += 1;
+    match message.get(4..) {
+        Some(body) => body
+            .iter()
+            .fold(start, |sum, byte| sum.wrapping_add(*byte as u32)),
+        None => start,
     }
-    sum
 }
 
 // The chksum of a message: 0 minus what it sums, wrapping in 32 bits. It sums every
@@ -25,8 +25,7 @@ fn sum_from(bytes: &[u8], from: usize) -> u32
 fn chksum_of(start: u32, message: &[u8]) -> u32
     ensures { result ≡ minus (start + sum_bytes (drop 4 message.now)) }
 {
-    let sum = std::num::wrapping_add_u32(start, sum_from(message, 4));
-    std::num::wrapping_sub_u32(0, sum)
+    0u32.wrapping_sub(sum_on(start, message))
 }
 
 // The sum of the four bytes of a code.

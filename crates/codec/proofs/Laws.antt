@@ -1,22 +1,21 @@
 -- The laws of messages: a command's own code, a request's refusal by the place of the first test that applies, and demand 2's "by the same
 -- field lists": what is written by a list reads back by it. Assumes nothing.
 -- The definitions stand in specs/Laws.antt.
-use Rattle.std.specs.Prelude.{ℕ, zero, suc, ◌+◌, ◌*◌, ◌^◌, ◌≤◌, ◌<◌, ◌≡◌, refl, Bool, true, false, cond, List, [], ◌∷◌, ◌++◌, map, eqb, length, get_or, take}
+use Rattle.std.specs.Prelude.{ℕ, zero, suc, ◌+◌, ◌*◌, ◌^◌, ◌≤◌, ◌<◌, ◌≡◌, refl, Bool, true, false, cond, List, [], ◌∷◌, ◌++◌, map, eqb, length, get_or, take, Ok, Err}
 use Rattle.std.specs.Prelude.{drop}
 use Rattle.std.proofs.Common.{sym, ap, ◌∙◌, ⊎_elim, append_assoc, arith, add-one, not-suc-le-zero, le_of_suc-le-suc, length-take, take_at, take-suc, eqb-true}
 use Rattle.std.proofs.lemmas.Bool.{false≢true}
 use Rattle.std.proofs.Math.Seq.{drop-append-add}
 use Rattle.laws.specs.Tests.{decided, cond_keeps, not_yes, and, is_yes_lem, neither}
-use Rattle.laws.specs.Refusals.{number_of, test_at, refusal_at, Past, refused_at, past_all}
+use Rattle.refusal.specs.Refusals.{test_at, refusal_at, Past, refused_at, past_all, judged}
 use Rattle.laws.specs.Put.{Put}
 use Rattle.endian.specs.Endian.{u32_at, u32_at_lem, bytes4}
 use Rattle.chksum.specs.Chksum.{closed, response_sum}
 use Rattle.chksum.specs.Laws.{closed_is}
-use Rattle.codec.specs.declared.Numbers.{Numbers}
 use Rattle.codec.specs.declared.Command.{Command}
 use Rattle.codec.specs.declared.Command.TheVariants.{Clkc, Klod, Kunl, Fers, Fsta, Ehdl, Rhpk, Unknown}
 use Rattle.codec.specs.Fields.{code_of, command_of, known, Field, Mek, field_discrete, same, among, width, listed, answered, request_fields, response_fields, length_of, place_of}
-use Rattle.codec.specs.Fields.{number_at, TimeoutIn, TagIn, bytes_at, mek_at, joined, written, numbers_in, held_by, response_of, response_in, least_room}
+use Rattle.codec.specs.Fields.{Numbers, number_at, TimeoutIn, TagIn, bytes_at, mek_at, joined, written, numbers_in, held_by, response_of, response_in, least_room}
 use Rattle.codec.specs.Request.{request_tests}
 use Rattle.codec.specs.Laws.{index_of, sized, request_bytes, request_of}
 
@@ -31,15 +30,15 @@ code_of_lem code = (or Clkc (or Klod (or Kunl (or Fers (or Fsta (or Ehdl (or Rhp
     or : (command : Command) {rest : Command} → Own code rest → Own code (cond (eqb code (code_of command)) command rest)
     or command {rest} r = cond_keeps (Own code) (eqb code (code_of command)) command rest (λ y. record { is = λ _. eqb-true _ _ y }) (λ _. r)
 
--- ---- which of a request's tests gives the number, by the test's place; 0 where none does
+-- ---- which of a request's tests gives the refusal, by the test's place; none where none does
 
 module _ (command : Command) (code : ℕ) (request : List ℕ) where
   pub request_at : (k : ℕ) → Past k (request_tests command code request) → test_at (request_tests command code request) k ≡ true
-      → refusal_at (request_tests command code request) k ≡ number_of (request_tests command code request)
-  request_at k = refused_at (λ n. n) 0 k (request_tests command code request)
+      → Err (refusal_at (request_tests command code request) k) ≡ judged (request_tests command code request)
+  request_at k = refused_at Err (Ok tt) k (request_tests command code request)
 
-  pub request_past : Past (length (request_tests command code request)) (request_tests command code request) → 0 ≡ number_of (request_tests command code request)
-  request_past = past_all (λ n. n) 0 (request_tests command code request)
+  pub request_past : Past (length (request_tests command code request)) (request_tests command code request) → Ok tt ≡ judged (request_tests command code request)
+  request_past = past_all Err (Ok tt) (request_tests command code request)
 
 -- ---- "Requests are read and responses written by the same field lists": what was written by a list reads back by it
 
@@ -149,7 +148,7 @@ no_mek Klod numbers = refl
 no_mek Kunl numbers = refl
 no_mek Fers numbers = refl
 no_mek Fsta numbers = refl
-no_mek Ehdl numbers = front_lacks Mek (2 * numbers.first) (listed 3) refl
+no_mek Ehdl numbers = front_lacks Mek (2 * (get_or numbers 0 0)) (listed 3) refl
 no_mek Rhpk numbers = refl
 no_mek Unknown numbers = refl
 
@@ -159,7 +158,7 @@ enough Klod numbers = omega arith
 enough Kunl numbers = omega arith
 enough Fers numbers = omega arith
 enough Fsta numbers = omega arith
-enough Ehdl numbers = omega (arith, length-take (2 * numbers.first) (listed 3))
+enough Ehdl numbers = omega (arith, length-take (2 * (get_or numbers 0 0)) (listed 3))
 enough Rhpk numbers = omega arith
 enough Unknown numbers = omega arith
 
@@ -171,8 +170,8 @@ u32_length (f ∷ fields) n =
     rw both.0 (omega (arith, u32_length fields both.1))
 
 -- EHDL's: "24, 32 or 40 bytes"
-pub list_bytes : (numbers : Numbers) → numbers.first ≤ 3 → length_of (response_fields Ehdl numbers) ≡ 16 + 8 * numbers.first
-list_bytes numbers l = omega (arith, u32_length (response_fields Ehdl numbers) (no_mek Ehdl numbers), list_long numbers.first l)
+pub list_bytes : (numbers : Numbers) → get_or numbers 0 0 ≤ 3 → length_of (response_fields Ehdl numbers) ≡ 16 + 8 * get_or numbers 0 0
+list_bytes numbers l = omega (arith, u32_length (response_fields Ehdl numbers) (no_mek Ehdl numbers), list_long (get_or numbers 0 0) l)
 
 u32_sized : (fields : List Field) (numbers : List ℕ) → among Mek fields ≡ false → length fields ≤ length numbers → sized fields (map bytes4 numbers) ≡ true
 u32_sized [] numbers n l = refl
@@ -228,6 +227,18 @@ written_next numbers k l = rw (add-one, take-suc numbers k 0) (sym (written_appe
 written_long : (numbers : List ℕ) → length (written numbers) ≡ 4 * length numbers
 written_long [] = refl
 written_long (v ∷ numbers) = omega (arith, written_long numbers)
+
+-- seven numbers are a response's
+pub seven : (numbers : List ℕ) → length numbers ≡ 7 → numbers_in numbers ≡ numbers
+seven [] l = absurd (omega arith)
+seven (a ∷ []) l = absurd (omega arith)
+seven (a ∷ b ∷ []) l = absurd (omega arith)
+seven (a ∷ b ∷ c ∷ []) l = absurd (omega arith)
+seven (a ∷ b ∷ c ∷ d ∷ []) l = absurd (omega arith)
+seven (a ∷ b ∷ c ∷ d ∷ e ∷ []) l = absurd (omega arith)
+seven (a ∷ b ∷ c ∷ d ∷ e ∷ f ∷ []) l = absurd (omega arith)
+seven (a ∷ b ∷ c ∷ d ∷ e ∷ f ∷ g ∷ []) l = refl
+seven (a ∷ b ∷ c ∷ d ∷ e ∷ f ∷ g ∷ h ∷ rest) l = absurd (omega arith)
 
 pub written_most : (numbers : List ℕ) (k : ℕ) → length (written (take k numbers)) ≤ 4 * k
 written_most numbers k = omega (arith, written_long (take k numbers), length-take k numbers)

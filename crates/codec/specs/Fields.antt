@@ -1,10 +1,9 @@
 -- Document 01, "Mailbox", the table, request P6's two messages and request P8's field: the commands, their codes, and one field list for each request and
 -- each response, from which requests are read and responses written. Assumes nothing.
-use Rattle.std.specs.Prelude.{ℕ, ◌+◌, ◌*◌, ◌^◌, ◌≡◌, Bool, true, false, cond, ◌||◌, List, [], ◌∷◌, ◌++◌, map, eqb, length, take, drop}
+use Rattle.std.specs.Prelude.{ℕ, ◌+◌, ◌*◌, ◌^◌, ◌≡◌, Bool, true, false, cond, ◌||◌, List, [], ◌∷◌, ◌++◌, map, eqb, length, take, drop, get_or}
 use Rattle.laws.specs.Tests.{is_yes}
 use Rattle.endian.specs.Endian.{u32_at, bytes4}
 use Rattle.chksum.specs.Chksum.{summed}
-use Rattle.codec.specs.declared.Numbers.{Numbers}
 use Rattle.codec.specs.declared.Command.{Command}
 use Rattle.codec.specs.declared.Command.TheVariants.{Clkc, Klod, Kunl, Fers, Fsta, Ehdl, Rhpk, Unknown}
 
@@ -101,6 +100,10 @@ asked Unknown = []
 abbrev pub listed : (count : ℕ) → List Field
 listed count = take (2 * count) (Handle0 ∷ HpkeAlgorithm0 ∷ Handle1 ∷ HpkeAlgorithm1 ∷ Handle2 ∷ HpkeAlgorithm2 ∷ [])
 
+-- the numbers of a response, in the order of its fields after reserved; those past its list are not written
+abbrev pub Numbers : Type 0
+Numbers = List ℕ
+
 -- the column "response after reserved", by what the response is to hold; request P8: "FERS carries it as a last field (24 bytes)"
 abbrev pub answered : Command → Numbers → List Field
 answered Clkc numbers = []
@@ -108,7 +111,7 @@ answered Klod numbers = Place ∷ []
 answered Kunl numbers = []
 answered Fers numbers = ShortPairs ∷ FirstShort ∷ NewFuses ∷ []
 answered Fsta numbers = TheActiveSlot ∷ HekAvailable ∷ []
-answered Ehdl numbers = HpkeHandleCount ∷ listed numbers.first
+answered Ehdl numbers = HpkeHandleCount ∷ listed (get_or numbers 0 0)
 answered Rhpk numbers = HpkeHandle ∷ []
 answered Unknown numbers = []
 
@@ -165,9 +168,9 @@ joined (part ∷ parts) = part ++ joined parts
 abbrev pub written : (numbers : List ℕ) → List ℕ
 written numbers = joined (map bytes4 numbers)
 
--- the numbers of a response, in the order of its fields after reserved; those past its list are not written
+-- three numbers of a response, two, one, none; the rest are 0
 abbrev pub three_numbers : (first second third : ℕ) → Numbers
-three_numbers first second third = record { first = first; second = second; third = third; fourth = 0; fifth = 0; sixth = 0; seventh = 0 }
+three_numbers first second third = first ∷ second ∷ third ∷ 0 ∷ 0 ∷ 0 ∷ 0 ∷ []
 
 abbrev pub two_numbers : (first second : ℕ) → Numbers
 two_numbers first second = three_numbers first second 0
@@ -178,8 +181,9 @@ one_number first = two_numbers first 0
 abbrev pub no_numbers : Numbers
 no_numbers = one_number 0
 
+-- all seven, by their places
 abbrev pub numbers_in : Numbers → List ℕ
-numbers_in n = n.first ∷ n.second ∷ n.third ∷ n.fourth ∷ n.fifth ∷ n.sixth ∷ n.seventh ∷ []
+numbers_in n = get_or n 0 0 ∷ get_or n 1 0 ∷ get_or n 2 0 ∷ get_or n 3 0 ∷ get_or n 4 0 ∷ get_or n 5 0 ∷ get_or n 6 0 ∷ []
 
 -- what the fields of a response after chksum hold, in the list's order: "fips_status (0), reserved (0)", and the command's own
 abbrev pub held_by : Command → Numbers → List ℕ

@@ -29,9 +29,9 @@ pub record Outcome (A L : Type 0) : Type 0 where
 abbrev pub outcome : {A L : Type 0} → A → L → Outcome A L
 outcome told after = record { told = told; after = after }
 
--- a refusal before anything is done: its number is told, and all stays as it was
-abbrev pub refusing : {A L : Type 0} → (refuse : ℕ → A) → L → (number : ℕ) → Outcome A L
-refusing refuse lent number = outcome (refuse number) lent
+-- a refusal before anything is done: it is told, and all stays as it was
+abbrev pub refusing : {R A L : Type 0} → (refuse : R → A) → L → (refusal : R) → Outcome A L
+refusing refuse lent refusal = outcome (refuse refusal) lent
 
 -- the same outcome, told in other words
 abbrev pub telling : {A B L : Type 0} → (A → B) → Outcome A L → Outcome B L

@@ -7,89 +7,58 @@
 // the library's standard streams.
 #![tactic(auto)]
 
-ghost use Rattle.std.specs.Prelude.{◌≡◌, length};
-ghost use Rattle.desk.specs.Intake.{Moved, intake_of, Within, file_of};
+ghost use Rattle.std.specs.Prelude.{◌≡◌, IfOk, OnOk};
+ghost use Rattle.std.specs.Io.KnownBytes.{Appends};
+ghost use Rattle.report.specs.declared.Stream.TheVariants.{Output, Errors};
+ghost use Rattle.desk.specs.Intake.{Taken};
 
 use report::{Failure, Program, Stream};
+use std::io;
 use std::io::{Read, Write};
-
-// The files of the two streams, as every Unix numbers them.
-const STDOUT_FILENO: i32 = 1;
-
-const STDERR_FILENO: i32 = 2;
-
-// What came of reading: so many bytes, or that it failed.
-#[derive(Clone, Copy)]
-enum Intake {
-    Bytes(usize),
-    Unread,
-}
-
-// What the answer of one read says. No bytes are the input's end, which is no failure.
-fn intake_of(got: isize) -> Intake
-    ensures { result ≡ intake_of got }
-{
-    if got < 0 {
-        return Intake::Unread;
-    }
-    Intake::Bytes(got as usize)
-}
-
-// One read of standard input: how many bytes it brought, none at the input's end, or -1 where it failed.
-fn read_some(rt: &HostRuntime, buf: &mut [u8]) -> isize
-    ensures { Moved (length buf.new) result }
-{
-    match rt.stdin().read(buf) {
-        Ok(count) => count as isize,
-        Err(_) => -1,
-    }
-}
 
 // Reads into the front of the buffer until the input ends or the buffer is full. A read that brings
 // less than was asked for is gone on with. One that fails is told, whatever came before it, since
-// that is no whole input.
-fn take_in(rt: &HostRuntime, buf: &mut [u8]) -> Intake
-    ensures { Within result buf.new }
+// that is no whole input. (The library's `read_exact` fails at an input that ends before, and its
+// `read_to_end` wants a heap.)
+#[tactic(auto, using(crate::proofs::Laws::read_on))]
+fn take_in<R: Read>(from: &mut R, buf: &mut [u8]) -> io::Result<usize>
+    ensures { IfOk result (λ count. Taken (R.remaining from.old) (R.remaining from.new) buf.new count) }
 {
-    let mut done: usize = 0;
+    let mut done = 0;
     while done < buf.len() {
-        let got = read_some(rt, &mut buf[done..]);
-        match intake_of(got) {
-            Intake::Unread => return Intake::Unread,
-            Intake::Bytes(more) => {
-                if more == 0 {
-                    break;
-                }
-                done += more;
-            }
+        let more = from.read(&mut buf[done..])?;
+        if more == 0 {
+            break;
         }
+        done += more;
     }
-    Intake::Bytes(done)
+    Ok(done)
 }
 
-// Writes all of the bytes to a file of the two, and answers whether it took them.
-fn write_all(rt: &HostRuntime, file: i32, bytes: &[u8]) -> bool {
-    if file == STDERR_FILENO {
-        return rt.stderr().write_all(bytes).is_ok();
+// Writes all of the bytes to the stream that is meant of the two, and leaves the other as it is. What
+// writes is a parameter, so that the promise can say which of them has the bytes.
+fn write_to<O: Write, E: Write>(
+    stream: Stream,
+    output: &mut O,
+    errors: &mut E,
+    bytes: &[u8],
+) -> io::Result<()>
+    ensures output { stream ≡ Output → (errors.new ≡ errors.old)
+        × OnOk result (Appends (O.contents output.old) (O.contents output.new) bytes.now) }
+    ensures errors { stream ≡ Errors → (output.new ≡ output.old)
+        × OnOk result (Appends (E.contents errors.old) (E.contents errors.new) bytes.now) }
+{
+    match stream {
+        Stream::Output => output.write_all(bytes),
+        Stream::Errors => errors.write_all(bytes),
     }
-    rt.stdout().write_all(bytes).is_ok()
 }
 
 // Says on standard error what failed. Where that cannot be written either, nothing is left to say it.
 fn tell(rt: &HostRuntime, program: Program, failure: Failure) {
     let mut line = [0u8; 64];
     let count = report::report_failure(program, failure, &mut line);
-    write_all(rt, STDERR_FILENO, &line[..count]);
-}
-
-// The file of a stream.
-fn file_of(stream: Stream) -> i32
-    ensures { result ≡ file_of stream }
-{
-    match stream {
-        Stream::Output => STDOUT_FILENO,
-        Stream::Errors => STDERR_FILENO,
-    }
+    let _ = rt.stderr().write_all(&line[..count]);
 }
 
 // Prints what `report` makes of the input. Output that cannot be written is told; for a refusal that
@@ -97,16 +66,14 @@ fn file_of(stream: Stream) -> i32
 fn print_report(rt: &HostRuntime, program: Program, input: &[u8]) {
     let mut out = [0u8; 512];
     let report = report::report_on(program, input, &mut out);
-    let count = report.count;
-    let stream = report.stream;
-    let written = write_all(rt, file_of(stream), &out[..count]);
-    match stream {
-        Stream::Output => {
-            if !written {
-                tell(rt, program, Failure::Output);
-            }
-        }
-        Stream::Errors => {}
+    let written = write_to(
+        report.stream,
+        &mut rt.stdout(),
+        &mut rt.stderr(),
+        &out[..report.count],
+    );
+    if written.is_err() && report.stream == Stream::Output {
+        tell(rt, program, Failure::Output);
     }
 }
 
@@ -114,8 +81,8 @@ fn print_report(rt: &HostRuntime, program: Program, input: &[u8]) {
 // there is nothing to promise.
 pub fn run(rt: &HostRuntime, program: Program) {
     let mut input = [0u8; 65536];
-    match take_in(rt, &mut input) {
-        Intake::Unread => tell(rt, program, Failure::Input),
-        Intake::Bytes(count) => print_report(rt, program, &input[..count]),
+    match take_in(&mut rt.stdin(), &mut input) {
+        Ok(count) => print_report(rt, program, &input[..count]),
+        Err(_) => tell(rt, program, Failure::Input),
     }
 }

@@ -1,25 +1,22 @@
 -- Document 01, "Direct commands", with requests P7 and P8: what a command on a word answers, and the cells that it leaves. Assumes nothing.
-use Rattle.std.specs.Prelude.{ℕ, ◌^◌, Bool, true, false, cond, not, ◌&&◌, ◌||◌, List, [], ◌∷◌, ◌++◌, eqb, leb, get_or}
+use Rattle.std.specs.Prelude.{ℕ, ◌^◌, Bool, true, false, cond, not, ◌&&◌, ◌||◌, List, [], ◌∷◌, ◌++◌, Option, Some, None, eqb, leb, get_or, Result, Ok, Err}
 use Rattle.std.specs.Int.Bits.{bit_or}
-use Rattle.laws.specs.Refusals.{first_of}
+use Rattle.refusal.specs.Refusals.{first_of}
+use Rattle.refusal.specs.declared.Refusal.{Refusal}
+use Rattle.refusal.specs.declared.Refusal.TheVariants.{NotThere, NotAllowed, ClearsFuse, SlotInUse}
 use Rattle.context.specs.State.{State, with_cells, Outcome, outcome, refusing}
 use Rattle.map.specs.declared.Entry.{Entry}
 use Rattle.map.specs.Map.{header_of, entry_of, life_cycle, zeroizable, secret, older_guide}
 use Rattle.fuse.specs.Fuse.{all_set, held_at, short, all_ones, burn_word, new_fuses}
 use Rattle.word.specs.declared.Role.{Role}
 use Rattle.word.specs.declared.Role.TheVariants.{Data, Digest, Indicator}
-use Rattle.word.specs.declared.Lookup.{Lookup}
-use Rattle.word.specs.declared.Lookup.TheVariants.{Word, Nothing}
+use Rattle.word.specs.declared.Word.{Word}
 use Rattle.word.specs.Word.{word_at}
-use Rattle.drive.specs.declared.Check.{Check}
-use Rattle.drive.specs.declared.Check.TheVariants.{Ready, Refused as NotReady}
 use Rattle.drive.specs.Drive.{drive_tests, check_of, marked_at, slot_in_use}
 use Rattle.direct.specs.declared.Command.{Command}
 use Rattle.direct.specs.declared.Command.TheVariants.{Read, Write, Zeroize}
-use Rattle.direct.specs.declared.Found.{Found}
-use Rattle.direct.specs.declared.Found.TheVariants.{Word as FoundWord, Refused as Barred}
 use Rattle.direct.specs.declared.Answer.{Answer}
-use Rattle.direct.specs.declared.Answer.TheVariants.{Word as Shown, Burned, Done, Withheld, Refused}
+use Rattle.direct.specs.declared.Answer.TheVariants.{Word as Shown, Burned, Done, Withheld}
 
 -- "each naming a word": its first cell
 abbrev pub cell_of : Command → ℕ
@@ -61,16 +58,16 @@ changes_slot (Write cell value) image i context = slot_in_use image i context
 changes_slot (Zeroize cell) image i context = slot_in_use image i context
 
 -- 7, "the cell starts no word"; then 8, 9 and 10
-abbrev pub word_tests : Lookup → Command → (image : List ℕ) → State → List (Bool × ℕ)
-word_tests Nothing command image s = (true, 7) ∷ []
-word_tests (Word i role wide) command image s =
-    (forbidden command image s.cells i role wide, 8)
-    ∷ (clears command s.cells wide, 9)
-    ∷ (changes_slot command image i s.context, 10)
+abbrev pub word_tests : Option Word → Command → (image : List ℕ) → State → List (Bool × Refusal)
+word_tests None command image s = (true, NotThere) ∷ []
+word_tests (Some word) command image s =
+    (forbidden command image s.cells word.partition word.role word.wide, NotAllowed)
+    ∷ (clears command s.cells word.wide, ClearsFuse)
+    ∷ (changes_slot command image word.partition s.context, SlotInUse)
     ∷ []
 
 -- all refusals of a command, by what its cell starts: 1 and 2 for the drive, 7 to 10 for the word
-abbrev pub direct_tests : Lookup → Command → (image marks : List ℕ) → State → List (Bool × ℕ)
+abbrev pub direct_tests : Option Word → Command → (image marks : List ℕ) → State → List (Bool × Refusal)
 direct_tests found command image marks s = drive_tests image s.cells marks ++ word_tests found command image s
 
 -- ---- what a command that is not refused leaves
@@ -107,31 +104,20 @@ answer_of (Zeroize cell) x wide bound word new =
     cond (secret x) (cond (short bound word) Withheld (Shown (told_word x wide word))) (Burned (told_word x wide word) new)
 
 -- the answer is by the word as it now stands
-abbrev pub shown_of : Command → (image : List ℕ) (i : ℕ) (wide : Bool) (new : ℕ) → State → Outcome Answer State
+abbrev pub shown_of : Command → (image : List ℕ) (i : ℕ) (wide : Bool) (new : ℕ) → State → Outcome (Result Answer Refusal) State
 shown_of command image i wide new s =
-    outcome (answer_of command (entry_of image i) wide (header_of image).bound (word_of wide (cell_of command) s.cells) new) s
+    outcome (Ok (answer_of command (entry_of image i) wide (header_of image).bound (word_of wide (cell_of command) s.cells) new)) s
 
 -- a cell that starts no word is refused before
-unfoldable pub carried_out : Lookup → Command → (image marks : List ℕ) → State → Outcome Answer State
-carried_out Nothing command image marks s = refusing Refused s 7
-carried_out (Word i role wide) command image marks s =
-    shown_of command image i wide (new_after command wide marks s.cells) (with_cells (cells_after command wide marks s.cells) s)
+unfoldable pub carried_out : Option Word → Command → (image marks : List ℕ) → State → Outcome (Result Answer Refusal) State
+carried_out None command image marks s = refusing Err s NotThere
+carried_out (Some word) command image marks s =
+    shown_of command image word.partition word.wide (new_after command word.wide marks s.cells) (with_cells (cells_after command word.wide marks s.cells) s)
 
 -- a command, by what its cell starts
-abbrev pub direct_by : Lookup → (image marks : List ℕ) → Command → State → Outcome Answer State
-direct_by found image marks command s = first_of (refusing Refused s) (direct_tests found command image marks s) (carried_out found command image marks s)
+abbrev pub direct_by : Option Word → (image marks : List ℕ) → Command → State → Outcome (Result Answer Refusal) State
+direct_by found image marks command s = first_of (refusing Err s) (direct_tests found command image marks s) (carried_out found command image marks s)
 
 -- a direct command
-unfoldable pub direct_of : (image marks : List ℕ) → Command → State → Outcome Answer State
+unfoldable pub direct_of : (image marks : List ℕ) → Command → State → Outcome (Result Answer Refusal) State
 direct_of image marks command s = direct_by (word_at image (cell_of command)) image marks command s
-
--- ---- below the entry points
-
--- what a command finds: the word that its cell starts, or the refusal 1, 2 or 7
-abbrev pub found_by : Check → Lookup → Found
-found_by (NotReady number) f = Barred number
-found_by (Ready header) Nothing = Barred 7
-found_by (Ready header) (Word i role wide) = FoundWord i role wide
-
-unfoldable pub found_of : (image cells marks : List ℕ) (cell : ℕ) → Found
-found_of image cells marks cell = found_by (check_of image cells marks) (word_at image cell)

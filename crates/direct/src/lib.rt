@@ -5,19 +5,19 @@
 // word and no value that becomes one is left in a dead frame (the test `residue`), `write` looks at
 // both only after the last call that is not inlined, and on the way from C no value lies in a command.
 // The definitions are in `specs/Direct`, the laws in `proofs/Laws`. It rests on `drive`, `word`,
-// `context`, `fuse` and what lies below them.
+// `context`, `fuse`, `refusal` and what lies below them.
 #![tactic(auto)]
 
 ghost use Rattle.std.specs.Prelude.{◌≡◌, ℕ, ◌+◌, ◌≤◌, List, length};
 ghost use Rattle.fuse.specs.Fuse.{cells_in};
-ghost use Rattle.word.specs.Word.{word_at};
 ghost use Rattle.context.specs.State.{state, outcome};
-ghost use Rattle.direct.specs.Direct.{word_of, is_data, ones_at, told_word, answer_of, found_by, direct_of};
+ghost use Rattle.direct.specs.Direct.{word_of, ones_at, told_word, answer_of, direct_of};
 
 use context::Context;
-use drive::Check;
+use drive::Drive;
 use map::Entry;
-use word::{Lookup, Role};
+use refusal::Refusal;
+use word::{Role, Word};
 
 // A command and the word that it names, by its first cell in the whole array.
 #[derive(Clone, Copy)]
@@ -27,7 +27,7 @@ pub enum Command {
     Zeroize { cell: u32 },
 }
 
-// What a command answers. A word that was burned comes with the number of fuses newly set, but for a
+// What a command answers that is not refused. A word that was burned comes with the number of fuses newly set, but for a
 // secret partition.
 #[derive(Clone, Copy)]
 pub enum Answer {
@@ -35,29 +35,6 @@ pub enum Answer {
     Burned { word: u64, new: u32 },
     Done,
     Withheld,
-    Refused(u32),
-}
-
-// What a command finds: the word that its cell starts, or the refusal's number.
-#[derive(Clone, Copy)]
-enum Found {
-    Word {
-        partition: u32,
-        role: Role,
-        wide: bool,
-    },
-    Refused(u32),
-}
-
-// Whether a word holds data.
-fn is_data(role: Role) -> bool
-    ensures { result ≡ is_data role }
-{
-    match role {
-        Role::Data => true,
-        Role::Digest => false,
-        Role::Indicator => false,
-    }
 }
 
 // The word that starts at a cell, as a number.
@@ -71,28 +48,6 @@ fn word_of(cells: &[u32], at: usize, wide: bool) -> u64
     fuse::pair(cells[at], 0)
 }
 
-// The word that starts at a cell of a drive, by the drive's check: refusals 1, 2 and 7. The callers
-// check the drive, so that the frames of the two are not in use at once.
-fn find(check: Check, image: &[u8], cell: u32) -> Found
-    ensures { result ≡ found_by check (word_at image.now cell) }
-{
-    match check {
-        Check::Refused(number) => Found::Refused(number),
-        Check::Ready(_) => match word::word_at(image, cell) {
-            Lookup::Nothing => Found::Refused(7),
-            Lookup::Word {
-                partition,
-                role,
-                wide,
-            } => Found::Word {
-                partition: partition,
-                role: role,
-                wide: wide,
-            },
-        },
-    }
-}
-
 // What WRITE answers of its word as it now stands, and of the fuses that it newly set; neither is looked
 // at in a secret partition. It does not depend on the command's cell, its value and the bound.
 fn written(cells: &[u32], at: usize, wide: bool, x: Entry, new: u32) -> Answer
@@ -104,7 +59,7 @@ fn written(cells: &[u32], at: usize, wide: bool, x: Entry, new: u32) -> Answer
     }
     Answer::Burned {
         word: word_of(cells, at, wide),
-        new: new,
+        new,
     }
 }
 
@@ -135,10 +90,7 @@ fn zeroized(word: u64, wide: bool, x: Entry, bound: u64, new: u32) -> Answer
 {
     let told = told_word(word, wide, x);
     if !map::is_secret(x) {
-        return Answer::Burned {
-            word: told,
-            new: new,
-        };
+        return Answer::Burned { word: told, new };
     }
     if fuse::is_short(word, bound) {
         return Answer::Withheld;
@@ -148,23 +100,18 @@ fn zeroized(word: u64, wide: bool, x: Entry, bound: u64, new: u32) -> Answer
 
 // READ of the word that starts at `cell`, which it answers. It is lent no context: whatever one there
 // is stays as it is.
-pub fn read(image: &[u8], cells: &[u32], marks: &[u32], cell: u32) -> Answer
+pub fn read(image: &[u8], cells: &[u32], marks: &[u32], cell: u32) -> Result<Answer, Refusal>
     ensures { (context : List ℕ) → outcome result (state cells.now context)
         ≡ direct_of image.now marks.now (Command.Read cell) (state cells.now context) }
 {
-    match find(drive::check_drive(image, cells, marks), image, cell) {
-        Found::Refused(number) => Answer::Refused(number),
-        Found::Word {
-            partition,
-            role: _,
-            wide,
-        } => {
-            if map::is_secret(map::read_entry(image, partition)) {
-                return Answer::Refused(8);
-            }
-            Answer::Word(word_of(cells, cell as usize, wide))
-        }
+    drive::check_drive(image, cells, marks)?;
+    let Some(word) = word::word_at(image, cell) else {
+        return Err(Refusal::NotThere);
+    };
+    if map::is_secret(map::read_entry(image, word.partition)) {
+        return Err(Refusal::NotAllowed);
     }
+    Ok(Answer::Word(word_of(cells, cell as usize, word.wide)))
 }
 
 // WRITE of a value into the data word that starts at `cell`. Whether 10 applies is asked before 8 and
@@ -176,37 +123,32 @@ pub fn write(
     context: &Context,
     cell: u32,
     value: u64,
-) -> Answer
+) -> Result<Answer, Refusal>
     ensures { outcome result (state cells.new context.now)
         ≡ direct_of image.now marks.now (Command.Write cell value) (state cells.old context.now) }
 {
-    match find(drive::check_drive(image, cells, marks), image, cell) {
-        Found::Refused(number) => Answer::Refused(number),
-        Found::Word {
-            partition,
-            role,
-            wide,
-        } => {
-            let in_use = drive::is_slot_in_use(image, partition, context);
-            let is_marked = drive::marked_at(image, cells, partition);
-            let x = map::read_entry(image, partition);
-            if !is_data(role)
-                | (x.kind == map::LIFE_CYCLE)
-                | is_marked
-                | (!wide & (0x1_0000_0000 <= value))
-            {
-                return Answer::Refused(8);
-            }
-            if (word_of(cells, cell as usize, wide) | value) != value {
-                return Answer::Refused(9);
-            }
-            if in_use {
-                return Answer::Refused(10);
-            }
-            let new = fuse::burn_word(cells, marks, cell as usize, wide, value);
-            written(cells, cell as usize, wide, x, new)
-        }
+    drive::check_drive(image, cells, marks)?;
+    let Some(word) = word::word_at(image, cell) else {
+        return Err(Refusal::NotThere);
+    };
+    let in_use = drive::is_slot_in_use(image, word.partition, context);
+    let is_marked = Drive { image, cells }.is_marked(word.partition);
+    let x = map::read_entry(image, word.partition);
+    if (word.role != Role::Data)
+        | (x.kind == map::LIFE_CYCLE)
+        | is_marked
+        | (!word.wide & (0x1_0000_0000 <= value))
+    {
+        return Err(Refusal::NotAllowed);
     }
+    if (word_of(cells, cell as usize, word.wide) | value) != value {
+        return Err(Refusal::ClearsFuse);
+    }
+    if in_use {
+        return Err(Refusal::SlotInUse);
+    }
+    let new = fuse::burn_word(cells, marks, cell as usize, word.wide, value);
+    Ok(written(cells, cell as usize, word.wide, x, new))
 }
 
 // ZEROIZE of the word that starts at `cell`: all ones are burned into it.
@@ -216,31 +158,25 @@ pub fn zeroize(
     marks: &[u32],
     context: &Context,
     cell: u32,
-) -> Answer
+) -> Result<Answer, Refusal>
     ensures { outcome result (state cells.new context.now)
         ≡ direct_of image.now marks.now (Command.Zeroize cell) (state cells.old context.now) }
 {
-    match find(drive::check_drive(image, cells, marks), image, cell) {
-        Found::Refused(number) => Answer::Refused(number),
-        Found::Word {
-            partition,
-            role: _,
-            wide,
-        } => {
-            let header = map::read_header(image);
-            let x = map::read_entry(image, partition);
-            let at = cell as usize;
-            if !map::is_zeroizable(x) {
-                return Answer::Refused(8);
-            }
-            if drive::is_slot_in_use(image, partition, context) {
-                return Answer::Refused(10);
-            }
-            let new = fuse::burn_word(cells, marks, at, wide, fuse::ALL_ONES);
-            let word = word_of(cells, at, wide);
-            zeroized(word, wide, x, header.bound as u64, new)
-        }
+    let header = drive::check_drive(image, cells, marks)?;
+    let Some(word) = word::word_at(image, cell) else {
+        return Err(Refusal::NotThere);
+    };
+    let x = map::read_entry(image, word.partition);
+    let at = cell as usize;
+    if !map::is_zeroizable(x) {
+        return Err(Refusal::NotAllowed);
     }
+    if drive::is_slot_in_use(image, word.partition, context) {
+        return Err(Refusal::SlotInUse);
+    }
+    let new = fuse::burn_word(cells, marks, at, word.wide, fuse::ALL_ONES);
+    let stands = word_of(cells, at, word.wide);
+    Ok(zeroized(stands, word.wide, x, header.bound as u64, new))
 }
 
 // A direct command: judged, then carried out unless it is refused.
@@ -250,7 +186,7 @@ pub fn run(
     marks: &[u32],
     context: &mut Context,
     command: Command,
-) -> Answer
+) -> Result<Answer, Refusal>
     ensures { outcome result (state cells.new context.new)
         ≡ direct_of image.now marks.now command (state cells.old context.old) }
 {

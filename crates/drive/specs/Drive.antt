@@ -1,7 +1,10 @@
 -- A whole drive, map image, cells and marks: document 01, "Refusal numbers" 1, 2 and 10, and "Active slot and key cache". Assumes nothing.
-use Rattle.std.specs.Prelude.{ℕ, ◌≡◌, Bool, true, false, cond, ◌&&◌, not, List, [], ◌∷◌, length, take, drop, eqb, ltb}
+use Rattle.std.specs.Prelude.{ℕ, ◌≡◌, Bool, true, false, cond, ◌&&◌, not, List, [], ◌∷◌, length, take, drop, eqb, ltb, Result, Ok, Err}
 use Rattle.laws.specs.Below.{first_below}
-use Rattle.laws.specs.Refusals.{first_of}
+use Rattle.refusal.specs.Refusals.{first_of}
+use Rattle.refusal.specs.declared.Refusal.{Refusal}
+use Rattle.refusal.specs.declared.Refusal.TheVariants.{BadMap, BadLent}
+use Rattle.map.specs.declared.Header.{Header}
 use Rattle.map.specs.Map.{header_of, entry_of, zeroizable, slot, map_good}
 use Rattle.partition.specs.declared.State.{State}
 use Rattle.partition.specs.declared.State.TheVariants.{Erased, Torn, Blank, Programmed}
@@ -10,8 +13,6 @@ use Rattle.partition.specs.Partition.{marked, survey_of}
 use Rattle.cache.specs.Cache.{cache_of, has_place}
 use Rattle.cache.specs.declared.Sought.TheVariants.{Occupied}
 use Rattle.drive.specs.declared.Terms.{Terms}
-use Rattle.drive.specs.declared.Check.{Check}
-use Rattle.drive.specs.declared.Check.TheVariants.{Ready, Refused}
 use Rattle.drive.specs.declared.ActiveSlot.{ActiveSlot}
 use Rattle.drive.specs.declared.ActiveSlot.TheVariants.{Programmed as ProgrammedSlot, Blank as BlankSlot, Torn as TornSlot, Absent}
 
@@ -22,15 +23,15 @@ unfoldable pub whole_arrays : (image cells marks : List ℕ) → Bool
 whole_arrays image cells marks = eqb (length cells) (header_of image).cells && eqb (length marks) (header_of image).cells
 
 -- the first refusals of every call: 1, "map breaks a rule above", then 2
-abbrev pub drive_tests : (image cells marks : List ℕ) → List (Bool × ℕ)
+abbrev pub drive_tests : (image cells marks : List ℕ) → List (Bool × Refusal)
 drive_tests image cells marks =
-    (not (map_good image), 1)
-    ∷ (not (whole_arrays image cells marks), 2)
+    (not (map_good image), BadMap)
+    ∷ (not (whole_arrays image cells marks), BadLent)
     ∷ []
 
 -- the check: the first of the two that applies, else the header
-unfoldable pub check_of : (image cells marks : List ℕ) → Check
-check_of image cells marks = first_of Refused (drive_tests image cells marks) (Ready (header_of image))
+unfoldable pub check_of : (image cells marks : List ℕ) → Result Header Refusal
+check_of image cells marks = first_of Err (drive_tests image cells marks) (Ok (header_of image))
 
 -- a map and cells that neither refusal concerns: what the functions below the entry points ask for
 pub record Whole (image cells : List ℕ) : Type 0 where

@@ -1,5 +1,5 @@
 -- The drive's laws: what a check that refuses nothing tells, and the answers of the walk over the slots. Assumes nothing.
-use Rattle.std.specs.Prelude.{ℕ, ◌+◌, ◌-◌, ◌≤◌, ◌<◌, ◌≡◌, refl, Bool, true, false, not, ◌&&◌, length, take, drop, eqb, ltb}
+use Rattle.std.specs.Prelude.{ℕ, ◌+◌, ◌-◌, ◌≤◌, ◌<◌, ◌≡◌, refl, Bool, true, false, not, ◌&&◌, length, take, drop, eqb, ltb, Result, Ok, Err}
 use Rattle.std.proofs.Common.{sym, ◌∙◌, arith, length-take}
 use Rattle.std.proofs.Math.Path.{ap}
 use Rattle.std.proofs.Math.Logic.{⊎_elim}
@@ -9,7 +9,8 @@ use borrow.Author.Tests.{ltb-true, ltb-false, eqb-true, lt-ltb, le-ltb, not-fals
 use Rattle.laws.specs.Tests.{and, decided}
 use Rattle.laws.specs.Below.{First}
 use Rattle.laws.proofs.Below.{first_tells, first_same, count_le, tally_le}
-use Rattle.laws.specs.Refusals.{first_of, test_at, refusal_at, Past, refused_at, past_all, first_elim, first_both}
+use Rattle.refusal.specs.Refusals.{first_of, test_at, refusal_at, Past, refused_at, past_all, first_elim, first_both}
+use Rattle.refusal.specs.declared.Refusal.{Refusal}
 use Rattle.map.specs.declared.Header.{Header}
 use Rattle.map.specs.declared.Entry.{Entry}
 use Rattle.map.specs.Map.{header_of, entry_of, zeroizable, slot, map_good}
@@ -22,8 +23,6 @@ use Rattle.partition.proofs.Marked.{erased_shorts}
 use Rattle.cache.specs.Cache.{cache_of, has_place}
 use Rattle.cache.specs.declared.Sought.TheVariants.{Occupied}
 use Rattle.drive.specs.declared.Terms.{Terms}
-use Rattle.drive.specs.declared.Check.{Check}
-use Rattle.drive.specs.declared.Check.TheVariants.{Ready, Refused}
 use Rattle.drive.specs.declared.ActiveSlot.{ActiveSlot}
 use Rattle.drive.specs.declared.ActiveSlot.TheVariants.{Absent}
 use Rattle.drive.specs.Drive.{Whole, whole_arrays, drive_tests, check_of, cells_of, terms_of, survey_at, marked_at, slot_in, slot_at, present}
@@ -31,16 +30,16 @@ use Rattle.drive.specs.Drive.{open_slot, active_place, active_slot, slot_in_use}
 
 -- ---- the check
 
--- which of its tests gives the number, by the test's place, and that none does
+-- which of its tests gives the refusal, by the test's place, and that none does
 module _ (image cells marks : List ℕ) where
   pub check_at : (k : ℕ) → Past k (drive_tests image cells marks) → test_at (drive_tests image cells marks) k ≡ true
-      → Refused (refusal_at (drive_tests image cells marks) k) ≡ check_of image cells marks
+      → Err (refusal_at (drive_tests image cells marks) k) ≡ check_of image cells marks
   unfolding check_of
-  check_at k = refused_at Refused (Ready (header_of image)) k (drive_tests image cells marks)
+  check_at k = refused_at Err (Ok (header_of image)) k (drive_tests image cells marks)
 
-  pub check_past : Past 2 (drive_tests image cells marks) → {header : Header} → header ≡ header_of image → Ready header ≡ check_of image cells marks
+  pub check_past : Past 2 (drive_tests image cells marks) → {header : Header} → header ≡ header_of image → Ok header ≡ check_of image cells marks
   unfolding check_of
-  check_past p e = ap Ready e ∙ past_all Refused (Ready (header_of image)) (drive_tests image cells marks) p
+  check_past p e = ap Ok e ∙ past_all Err (Ok (header_of image)) (drive_tests image cells marks) p
 
 -- the code's test of the lengths, at the header that was read
 pub arrays_are : (image cells marks : List ℕ) (header : Header) → header ≡ header_of image
@@ -55,14 +54,14 @@ pub record Judged (image cells marks : List ℕ) (header : Header) : Type 0 wher
   pub header_is : header ≡ header_of image
 
 -- a refusal is not ready
-not_ready : {n : ℕ} {header : Header} → Ready header ≡ Refused n → ⊥
+not_ready : {r : Refusal} {header : Header} → ◌≡◌ {A = Result Header Refusal} (Ok header) (Err r) → ⊥
 not_ready e = let z : ◌≡◌ {A = ℕ} 0 1 = cc in omega arith
 
-pub judged : (image cells marks : List ℕ) (header : Header) → Ready header ≡ check_of image cells marks → Judged image cells marks header
+pub judged : (image cells marks : List ℕ) (header : Header) → Ok header ≡ check_of image cells marks → Judged image cells marks header
 unfolding check_of whole_arrays
 judged image cells marks header =
-    first_elim (λ (check : Check). Ready header ≡ check → Judged image cells marks header) Refused (drive_tests image cells marks) (Ready (header_of image))
-    (λ n _ e. absurd (not_ready e))
+    first_elim (λ (check : Result Header Refusal). Ok header ≡ check → Judged image cells marks header) Err (drive_tests image cells marks) (Ok (header_of image))
+    (λ _ _ e. absurd (not_ready e))
     (λ none e.
     let arrays = and (eqb (length cells) (header_of image).cells) (eqb (length marks) (header_of image).cells) (not-false _ (none 1)) in
     record {
@@ -72,22 +71,22 @@ judged image cells marks header =
     })
 
 -- a call's refusals begin with the drive's: what the check answers, the whole list answers
-module _ {A : Type 0} (refuse : ℕ → A) (rest : List (Bool × ℕ)) (accepted : A) (image cells marks : List ℕ) where
-  pub check_refused : (n : ℕ) → Refused n ≡ check_of image cells marks → first_of refuse (drive_tests image cells marks ++ rest) accepted ≡ refuse n
+module _ {A : Type 0} (refuse : Refusal → A) (rest : List (Bool × Refusal)) (accepted : A) (image cells marks : List ℕ) where
+  pub check_refused : (r : Refusal) → Err r ≡ check_of image cells marks → first_of refuse (drive_tests image cells marks ++ rest) accepted ≡ refuse r
   unfolding check_of
-  check_refused n =
-      first_both (λ (check : Check) (a : A). Refused n ≡ check → a ≡ refuse n) Refused refuse (drive_tests image cells marks)
-      (Ready (header_of image)) (first_of refuse rest accepted)
-      (λ m _ e. let same : n ≡ m = cc in rw same)
+  check_refused r =
+      first_both (λ (check : Result Header Refusal) (a : A). Err r ≡ check → a ≡ refuse r) Err refuse (drive_tests image cells marks)
+      (Ok (header_of image)) (first_of refuse rest accepted)
+      (λ q _ e. let same : r ≡ q = cc in rw same)
       (λ _ e. absurd (not_ready (sym e)))
 
-  pub check_passed : (header : Header) → Ready header ≡ check_of image cells marks
+  pub check_passed : (header : Header) → Ok header ≡ check_of image cells marks
       → first_of refuse (drive_tests image cells marks ++ rest) accepted ≡ first_of refuse rest accepted
   unfolding check_of
   check_passed header =
-      first_both (λ (check : Check) (a : A). Ready header ≡ check → a ≡ first_of refuse rest accepted) Refused refuse (drive_tests image cells marks)
-      (Ready (header_of image)) (first_of refuse rest accepted)
-      (λ m _ e. absurd (not_ready e))
+      first_both (λ (check : Result Header Refusal) (a : A). Ok header ≡ check → a ≡ first_of refuse rest accepted) Err refuse (drive_tests image cells marks)
+      (Ok (header_of image)) (first_of refuse rest accepted)
+      (λ _ _ e. absurd (not_ready e))
       (λ _ e. refl)
 
 -- ---- the active slot, by where a walk over the slots ended

@@ -1,15 +1,15 @@
 -- The active slot, by computation: two slots of six cells, bound 60, each erased, torn at 59, blank or programmed. Assumes nothing.
-use Rattle.std.specs.Prelude.{ℕ, ◌≡◌, refl, true, false, List, [], ◌∷◌, ◌++◌, map, replicate}
+use Rattle.std.specs.Prelude.{ℕ, ◌≡◌, refl, true, false, List, [], ◌∷◌, ◌++◌, map, replicate, Err}
 use Rattle.std.specs.Int.Count.{ones_in}
 use Rattle.laws.specs.Tests.{every}
 use Rattle.laws.specs.Below.{all_below, count_below, first_from}
+use Rattle.refusal.specs.declared.Refusal.TheVariants.{BadMap, BadLent}
 use Rattle.endian.specs.Endian.{u16_at}
 use Rattle.map.specs.Map.{header_good, filler_good, entry_good, place_good, map_good}
 use Rattle.map.specs.Image.{image, entry}
 use Rattle.map.specs.Vectors.{one}
 use Rattle.partition.specs.Partition.{short_at, marked, zero_cell, state_of}
 use Rattle.drive.specs.Drive.{whole_arrays, check_of, survey_at, slot_at, open_slot, active_slot, available}
-use Rattle.drive.specs.declared.Check.TheVariants.{Refused}
 use Rattle.drive.specs.declared.ActiveSlot.{ActiveSlot}
 use Rattle.drive.specs.declared.ActiveSlot.TheVariants.{Programmed, Blank, Torn, Absent}
 
@@ -50,6 +50,6 @@ refusals :
     ∷ check_of (one (entry 0 6 0 3)) (replicate 11 0) (replicate 12 0)
     ∷ check_of (one (entry 0 6 0 3)) (replicate 12 0) (replicate 13 0)
     ∷ []
-    ≡ Refused 1 ∷ Refused 2 ∷ Refused 2 ∷ []
+    ≡ Err BadMap ∷ Err BadLent ∷ Err BadLent ∷ []
 unfolding check_of whole_arrays map_good every header_good filler_good entry_good place_good all_below u16_at
 refusals = refl

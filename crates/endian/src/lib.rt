@@ -11,26 +11,18 @@ ghost use Rattle.endian.specs.Endian.{byte_at, u16_at, u32_at, bytes4};
 pub fn byte_at(bytes: &[u8], k: usize) -> u8
     ensures { result ≡ byte_at bytes.now k }
 {
-    if k < bytes.len() { bytes[k] } else { 0 }
-}
-
-// A byte as a u16.
-fn widened(x: u8) -> u16
-    ensures { (result ≡ x) × (result < 256) }
-{
-    x as u16
+    bytes.get(k).copied().unwrap_or(0)
 }
 
 // The u16 whose low byte is at `k`. Where both bytes are there they are read without a further test.
 pub fn u16_at(bytes: &[u8], k: usize) -> u16
     ensures { result ≡ u16_at bytes.now k }
 {
-    if 2 <= bytes.len() {
-        if k <= bytes.len() - 2 {
-            return widened(bytes[k]) + 256 * widened(bytes[k + 1]);
-        }
+    if 2 <= bytes.len() && k <= bytes.len() - 2 {
+        u16::from_le_bytes([bytes[k], bytes[k + 1]])
+    } else {
+        u16::from(byte_at(bytes, k))
     }
-    widened(byte_at(bytes, k))
 }
 
 // The u32 whose lowest byte is at `k`.
@@ -42,7 +34,7 @@ pub fn u32_at(bytes: &[u8], k: usize) -> u32
     }
     let low = u16_at(bytes, k);
     let high = u16_at(bytes, k + 2);
-    (low as u32) + 65536 * (high as u32)
+    u32::from(low) + 65536 * u32::from(high)
 }
 
 // Writes the four bytes of `v` into the buffer from `at` on, and answers the place past them.
@@ -50,9 +42,6 @@ pub fn put_u32(out: &mut [u8], at: usize, v: u32) -> usize
     requires { at + 4 ≤ length out.old }
     ensures { Put at (bytes4 v) out.old out.new result }
 {
-    out[at] = (v % 256) as u8;
-    out[at + 1] = (v / 256 % 256) as u8;
-    out[at + 2] = (v / 65536 % 256) as u8;
-    out[at + 3] = (v / 16777216) as u8;
+    out[at..at + 4].copy_from_slice(&v.to_le_bytes());
     at + 4
 }

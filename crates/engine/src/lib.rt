@@ -6,6 +6,7 @@ ghost use Rattle.std.specs.Prelude.{◌≡◌, ◌≤◌, length};
 ghost use Rattle.engine.specs.Engine.{engine_block};
 
 // What the engine is to do, with the timeout, and the place of a load or an unload.
+// Kept with a case for none: document 01's "none, or clear .. or load or unload" is one answer, in C one number.
 #[derive(Clone, Copy)]
 pub enum Order {
     Nothing,
@@ -34,7 +35,8 @@ pub fn write_block(block: &mut [u8], mek: &[u8], tag: u64)
 {
     let mut built = [0u8; 128];
     built[..mek.len()].copy_from_slice(mek);
+    // Kept as two numbers: `block_is`, which may not change, speaks of the tag's halves, each put as a number.
     let at = endian::put_u32(&mut built, METD, (tag % 0x1_0000_0000) as u32);
-    let _ = endian::put_u32(&mut built, at, (tag / 0x1_0000_0000) as u32);
-    block.copy_from_slice(&built[..]);
+    endian::put_u32(&mut built, at, (tag / 0x1_0000_0000) as u32);
+    block.copy_from_slice(&built);
 }

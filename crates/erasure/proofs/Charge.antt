@@ -3,7 +3,7 @@
 use Rattle.std.specs.Prelude.{ℕ, ◌+◌, ◌<◌, ◌≡◌, refl, List, ◌++◌, take, drop}
 use Rattle.std.proofs.Common.{ap, arith, leb-false}
 use Rattle.std.proofs.lemmas.Bool.{not-false}
-use Rattle.laws.specs.Refusals.{first_elim}
+use Rattle.refusal.specs.Refusals.{first_elim}
 use Rattle.context.specs.State.{State, Outcome, refusing}
 use Rattle.map.specs.Map.{header_of, entry_of, software}
 use Rattle.fuse.specs.Fuse.{set_fuses}
@@ -13,7 +13,7 @@ use Rattle.burns.specs.declared.End.TheVariants.{Whole, Stopped, Cut as CutEnd}
 use Rattle.burns.proofs.Charge.{run_charge}
 use Rattle.drive.specs.Drive.{Whole as WholeDrive, cells_of}
 use Rattle.erasure.specs.declared.Answer.{Answer}
-use Rattle.erasure.specs.Erasure.{erase_tests, put_part, run_on, answer_by, told_new, ran_of, unburned, burning, erase_of}
+use Rattle.erasure.specs.Erasure.{erase_tests, put_part, run_on, answer_by, told_new, ran_of, unburned, burning, erase_of, Told}
 use Rattle.erasure.proofs.Cuts.{whole_by}
 use Rattle.erasure.proofs.Ends.{stops_same}
 
@@ -53,7 +53,7 @@ pub erase_charge : (image marks : List ℕ) (i k mask : ℕ) (s : State)
     → let o = erase_of image marks i k mask s in set_fuses o.after.cells ≡ set_fuses s.cells + told_new o.told
 unfolding erase_of
 erase_charge image marks i k mask s =
-    first_elim (λ (o : Outcome Answer State). set_fuses o.after.cells ≡ set_fuses s.cells + told_new o.told)
+    first_elim (λ (o : Outcome Told State). set_fuses o.after.cells ≡ set_fuses s.cells + told_new o.told)
     (refusing unburned s) (erase_tests image marks i s) (burning image marks i k mask s)
     (λ n _. omega arith)
     (λ none. ran_charge image s.cells marks i k mask (whole_by image s.cells marks (not-false _ (none 0)) (not-false _ (none 1))) (leb-false _ _ (none 2)))

@@ -6,7 +6,9 @@ use Rattle.std.proofs.Math.Path.{refl, ap}
 use Rattle.std.proofs.Common.{◌∙◌, arith, leb-false, eqb-true, ne_eqb}
 use Rattle.std.proofs.lemmas.Bool.{not-false}
 use Rattle.laws.specs.Tests.{and}
-use Rattle.laws.specs.Refusals.{first_elim, first_both, not_numbered, GivenFirst, given_first, GivenLowest, lowest_tells}
+use Rattle.refusal.specs.Refusals.{first_elim, first_both, not_numbered, GivenFirst, given_first, GivenLowest, lowest_tells}
+use Rattle.refusal.specs.declared.Refusal.{Refusal}
+use Rattle.refusal.specs.Numbers.{number}
 use Rattle.context.specs.State.{State, Outcome, refusing, on_cells}
 use Rattle.map.specs.Map.{header_of, entry_of, software, map_good}
 use Rattle.map.proofs.Laws.{map_entry}
@@ -17,7 +19,7 @@ use Rattle.burns.proofs.Turns.{order_fewer}
 use Rattle.burns.proofs.Ends.{run_late, run_early, run_burns, never_cut}
 use Rattle.drive.specs.Drive.{Whole as WholeDrive, whole_arrays, cells_of}
 use Rattle.erasure.specs.declared.Answer.{Answer}
-use Rattle.erasure.specs.Erasure.{erase_tests, in_whole, run_on, never, answer_by, ran_of, unburned, burning, erase_of, erasure_of, is_cut}
+use Rattle.erasure.specs.Erasure.{erase_tests, in_whole, run_on, never, answer_by, ran_of, unburned, burning, erase_of, erasure_of, is_cut, Told}
 use Rattle.erasure.proofs.Laws.{part_long, part_small}
 use Rattle.erasure.specs.Cuts.{burns_in, BurnsTold}
 
@@ -71,14 +73,14 @@ unfolding whole_arrays
 whole_by image cells marks good arrays = record { good = good; long = eqb-true _ _ (and _ _ arrays).0 }
 
 module _ (image marks : List ℕ) (i k mask : ℕ) (s : State) where
-  abbrev tests : List (Bool × ℕ)
+  abbrev tests : List (Bool × Refusal)
   tests = erase_tests image marks i s
 
   -- "If the erasure would end before burn k, it runs as uncut", and is then "uncut" though it names a cut
   pub late_is_uncut : burns_in (erasure_of image marks i s).told ≤ k → erase_of image marks i k mask s ≡ erasure_of image marks i s
   unfolding erase_of
   late_is_uncut =
-      first_both (λ (o u : Outcome Answer State). burns_in u.told ≤ k → o ≡ u)
+      first_both (λ (o u : Outcome Told State). burns_in u.told ≤ k → o ≡ u)
       (refusing unburned s) (refusing unburned s) tests (burning image marks i k mask s) (burning image marks i never 0 s)
       (λ n _ late. refl)
       (λ none late.
@@ -91,7 +93,7 @@ module _ (image marks : List ℕ) (i k mask : ℕ) (s : State) where
   pub early_is_cut : k < burns_in (erasure_of image marks i s).told → is_cut (erase_of image marks i k mask s).told ≡ true
   unfolding erase_of
   early_is_cut =
-      first_both (λ (o u : Outcome Answer State). k < burns_in u.told → is_cut o.told ≡ true)
+      first_both (λ (o u : Outcome Told State). k < burns_in u.told → is_cut o.told ≡ true)
       (refusing unburned s) (refusing unburned s) tests (burning image marks i k mask s) (burning image marks i never 0 s)
       (λ n _ early. absurd (omega arith))
       (λ none early.
@@ -104,7 +106,7 @@ module _ (image marks : List ℕ) (i k mask : ℕ) (s : State) where
 pub erasure_uncut : (image marks : List ℕ) (i : ℕ) (s : State) → is_cut (erasure_of image marks i s).told ≡ false
 unfolding erase_of
 erasure_uncut image marks i s =
-    first_elim (λ (o : Outcome Answer State). is_cut o.told ≡ false) (refusing unburned s) (erase_tests image marks i s) (burning image marks i never 0 s)
+    first_elim (λ (o : Outcome Told State). is_cut o.told ≡ false) (refusing unburned s) (erase_tests image marks i s) (burning image marks i never 0 s)
     (λ n _. refl)
     (λ none. by (run_on image s.cells marks i never 0).end
     (λ e. uncut_judged image s.cells i (whole_by image s.cells marks (not-false _ (none 0)) (not-false _ (none 1))) (leb-false _ _ (none 2)) marks 0 e))
@@ -127,7 +129,7 @@ pub burns_told : (image marks : List ℕ) (i k mask : ℕ) (s : State) → Burns
 unfolding erase_of
 burns_told image marks i k mask s =
     let tests = erase_tests image marks i s in
-    first_elim (λ (o : Outcome Answer State). BurnsTold image i k o.told) (refusing unburned s) tests (burning image marks i k mask s)
-    (λ n a. rw (ne_eqb n 15 (λ e. not_numbered 15 tests refl a e)))
+    first_elim (λ (o : Outcome Told State). BurnsTold image i k o.told) (refusing unburned s) tests (burning image marks i k mask s)
+    (λ r a. rw (ne_eqb (number r) 15 (λ e. not_numbered 15 tests refl r a e)))
     (λ none. run_tells image s.cells marks i k mask (whole_by image s.cells marks (not-false _ (none 0)) (not-false _ (none 1))) (leb-false _ _ (none 2))
     (run_on image s.cells marks i k mask).end refl)

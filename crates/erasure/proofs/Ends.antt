@@ -1,7 +1,7 @@
 -- What an erasure leaves of its partition, told by its own answer: one that ended leaves it erased or torn, and 15, which is given exactly
 -- when no indicator fuse is set, leaves every cell. Assumes nothing.
 -- The definitions stand in specs/Ends.antt.
-use Rattle.std.specs.Prelude.{ℕ, ◌+◌, ◌-◌, ◌*◌, ◌%◌, ◌≤◌, ◌<◌, ◌≡◌, refl, ◌↔◌, length}
+use Rattle.std.specs.Prelude.{ℕ, ◌+◌, ◌-◌, ◌*◌, ◌%◌, ◌≤◌, ◌<◌, ◌≡◌, refl, ◌↔◌, length, Option, Some, None}
 use Rattle.std.proofs.Math.Path.{sym, ap, ap₂}
 use Rattle.std.proofs.Common.{◌∙◌}
 use Rattle.std.proofs.Math.Logic.{inl, inr, ⊎_elim}
@@ -13,8 +13,6 @@ use Rattle.std.specs.Int.Bits.{bit_or}
 use Rattle.map.specs.Map.{header_of, entry_of, software, zeroizable}
 use Rattle.map.proofs.Laws.{map_header, map_entry}
 use Rattle.fuse.specs.Fuse.{free}
-use Rattle.partition.specs.declared.Lowest.{Lowest}
-use Rattle.partition.specs.declared.Lowest.TheVariants.{Cell, Nothing}
 use Rattle.partition.specs.Partition.{indicator, short_pairs, lowest_short, marked}
 use Rattle.partition.proofs.Marked.{erased_exactly, torn_otherwise}
 use Rattle.burns.specs.declared.End.TheVariants.{Whole, Stopped}
@@ -61,7 +59,7 @@ module _ (image cells marks : List ℕ) (i k mask : ℕ) (whole : WholeDrive ima
   left_long = part_long image left i (record { good = whole.good; long = run_length image cells marks i k mask whole l ∙ whole.long }) l
 
   -- the lowest short pair is the indicator exactly when the first short cell is the indicator's
-  indicator_first : (lowest : Lowest) → (lowest ≡ Cell (2 * indicator (part left))) ↔ (first_short (entry_of image i).first lowest ≡ indicator_cell image i)
+  indicator_first : (lowest : Option ℕ) → (lowest ≡ Some (2 * indicator (part left))) ↔ (first_short (entry_of image i).first lowest ≡ indicator_cell image i)
   indicator_first lowest = (to lowest, from lowest)
     where
       cell_is : (entry_of image i).first + 2 * indicator (part left) ≡ indicator_cell image i
@@ -70,12 +68,12 @@ module _ (image cells marks : List ℕ) (i k mask : ℕ) (whole : WholeDrive ima
       under : indicator_cell image i < 2048
       under = omega (arith, least, part_end image cells i whole l, whole.long, (map_header image whole.good).cells_most)
 
-      to : (lowest : Lowest) → lowest ≡ Cell (2 * indicator (part left)) → first_short (entry_of image i).first lowest ≡ indicator_cell image i
+      to : (lowest : Option ℕ) → lowest ≡ Some (2 * indicator (part left)) → first_short (entry_of image i).first lowest ≡ indicator_cell image i
       to lowest e = rw e cell_is
 
-      from : (lowest : Lowest) → first_short (entry_of image i).first lowest ≡ indicator_cell image i → lowest ≡ Cell (2 * indicator (part left))
-      from (Cell k) e = ap Cell (omega (arith, e, cell_is))
-      from Nothing e = absurd (omega (arith, e, under))
+      from : (lowest : Option ℕ) → first_short (entry_of image i).first lowest ≡ indicator_cell image i → lowest ≡ Some (2 * indicator (part left))
+      from (Some k) e = ap Some (omega (arith, e, cell_is))
+      from None e = absurd (omega (arith, e, under))
 
   pub run_leaves : zeroizable (entry_of image i) ≡ true → (run_on image cells marks i k mask).end ≡ Whole
       → LeftBy (indicator_cell image i) (short_pairs bound (part left)) (first_short (entry_of image i).first (lowest_short bound (part left))) (survey_at image left i)

@@ -1,18 +1,17 @@
 -- The laws of an erasure on a drive: its refusal's number, the run over the partition that was read, and what is answered. Assumes nothing.
-use Rattle.std.specs.Prelude.{ℕ, ◌+◌, ◌-◌, ◌%◌, ◌^◌, ◌≤◌, ◌<◌, ◌≡◌, Bool, true, false, cond, length, take, drop}
+use Rattle.std.specs.Prelude.{ℕ, ◌+◌, ◌-◌, ◌%◌, ◌^◌, ◌≤◌, ◌<◌, ◌≡◌, Bool, true, false, cond, length, take, drop, Ok, Err, Result, ⊤, Option, Some, None}
 use Rattle.std.proofs.Math.Path.{refl, sym, ap}
 use Rattle.std.proofs.Common.{◌∙◌, length-drop, length-take, leb-false}
 use mathlib.Core.List.{List, [], ◌++◌}
 use native.Mathlib.Omega.{arith}
 use Rattle.std.proofs.lemmas.Bool.{not-false}
-use Rattle.laws.specs.Refusals.{number_of, test_at, refusal_at, Past, refused_at, past_all, number_refuses, number_passes}
+use Rattle.refusal.specs.Refusals.{test_at, refusal_at, Past, refused_at, past_all, first_of, judged, judged_refuses, judged_passes}
+use Rattle.refusal.specs.declared.Refusal.{Refusal}
 use Rattle.context.specs.State.{State, with_cells, with_context, Outcome, outcome, refusing, on_cells}
 use Rattle.map.specs.declared.Header.{Header}
 use Rattle.map.specs.declared.Entry.{Entry}
 use Rattle.map.specs.Map.{header_of, entry_of, software}
 use Rattle.map.proofs.Laws.{map_header, map_entry}
-use Rattle.partition.specs.declared.Lowest.{Lowest}
-use Rattle.partition.specs.declared.Lowest.TheVariants.{Cell, Nothing}
 use Rattle.partition.specs.declared.Shorts.{Shorts}
 use Rattle.partition.specs.Partition.{lowest_short, shorts_of}
 use Rattle.partition.proofs.Laws.{lowest_tells}
@@ -20,25 +19,23 @@ use Rattle.burns.specs.declared.End.{End}
 use Rattle.burns.specs.declared.End.TheVariants.{Whole}
 use Rattle.burns.specs.declared.Report.{Report}
 use Rattle.burns.specs.Run.{Tally, tally_of, Ran, ran_as, run}
-use Rattle.drive.specs.declared.Check.{Check}
-use Rattle.drive.specs.declared.Check.TheVariants.{Ready, Refused as NotReady}
 use Rattle.drive.specs.Drive.{Whole as WholeDrive, check_of, cells_of}
-use Rattle.drive.specs.Laws.{check_past, check_refused, check_passed, judged, part_is, shorts_most}
+use Rattle.drive.specs.Laws.{check_refused, check_passed, judged as judged_drive, part_is, shorts_most}
 use Rattle.cache.specs.Cache.{emptied}
 use Rattle.erasure.specs.declared.Answer.{Answer}
-use Rattle.erasure.specs.declared.Answer.TheVariants.{Ended, Refused}
-use Rattle.erasure.specs.Erasure.{partition_tests, erase_tests, refusal_by, Erasable, in_whole, run_on, first_short, answer_by, ran_of, unburned, burning}
+use Rattle.erasure.specs.declared.Answer.TheVariants.{Ended}
+use Rattle.erasure.specs.Erasure.{Told, partition_tests, Erasable, in_whole, run_on, first_short, answer_by, ran_of, unburned, burning}
 use Rattle.erasure.specs.Erasure.{erase_of, is_cut, after_cut}
 
--- ---- which of the partition's tests gives the number, by the test's place; 0 where none does
+-- ---- which of the partition's tests gives the refusal, by the test's place; none where none does
 
 module _ (image : List ℕ) (i : ℕ) (context : List ℕ) where
   pub partition_at : (k : ℕ) → Past k (partition_tests image i context) → test_at (partition_tests image i context) k ≡ true
-      → refusal_at (partition_tests image i context) k ≡ number_of (partition_tests image i context)
-  partition_at k = refused_at (λ n. n) 0 k (partition_tests image i context)
+      → Err (refusal_at (partition_tests image i context) k) ≡ judged (partition_tests image i context)
+  partition_at k = refused_at Err (Ok tt) k (partition_tests image i context)
 
-  pub partition_past : Past 3 (partition_tests image i context) → 0 ≡ number_of (partition_tests image i context)
-  partition_past = past_all (λ n. n) 0 (partition_tests image i context)
+  pub partition_past : Past 3 (partition_tests image i context) → Ok tt ≡ judged (partition_tests image i context)
+  partition_past = past_all Err (Ok tt) (partition_tests image i context)
 
 -- ---- the partition's part of the arrays, at the entry x that was read
 
@@ -54,11 +51,11 @@ module _ (image cells : List ℕ) (i : ℕ) (whole : WholeDrive image cells) (l 
   part_small = omega (arith, part_long, part_end, whole.long, (map_header image whole.good).cells_most)
 
   -- so its numbers fit in 32 bits
-  first_fits : (bound : ℕ) (lowest : Lowest) → lowest ≡ lowest_short bound (cells_of image cells i) → first_short (entry_of image i).first lowest < 2 ^ 32
-  first_fits bound (Cell k) e =
+  first_fits : (bound : ℕ) (lowest : Option ℕ) → lowest ≡ lowest_short bound (cells_of image cells i) → first_short (entry_of image i).first lowest < 2 ^ 32
+  first_fits bound (Some k) e =
       let at = lowest_tells bound (cells_of image cells i) k e in
       omega (arith, at.cell, at.within, part_long, part_end, whole.long, (map_header image whole.good).cells_most)
-  first_fits bound Nothing e = omega arith
+  first_fits bound None e = omega arith
 
   module _ (bound : ℕ) {part : List ℕ} {shorts : Shorts} (p : part ≡ cells_of image cells i) (q : shorts ≡ shorts_of bound part) where
     pub count_fits : shorts.count < 2 ^ 32
@@ -105,60 +102,61 @@ module _ (image cells marks : List ℕ) (i : ℕ) (ok : Erasable image cells mar
 pub ended_is : (image cells : List ℕ) (i burns new : ℕ) {header : Header} {x : Entry} {part : List ℕ} {shorts : Shorts} {first : ℕ} → header ≡ header_of image
     → x ≡ entry_of image i → part ≡ cells_of image cells i
     → shorts ≡ shorts_of header.bound part → first ≡ first_short x.first shorts.lowest
-    → Ended shorts.count first burns new ≡ answer_by Whole image i (tally_of cells burns new)
+    → Ok (Ended shorts.count first burns new) ≡ answer_by Whole image i (tally_of cells burns new)
 ended_is image cells i burns new h e p q f = rw (f, q, p, h, e)
 
 -- how a run ended, as the code tells it
-pub ended : (image : List ℕ) (i : ℕ) (t : Tally) {end told : End} {answer : Answer} → end ≡ told → answer ≡ answer_by told image i t → answer ≡ answer_by end image i t
+pub ended : (image : List ℕ) (i : ℕ) (t : Tally) {end told : End} {answer : Told} → end ≡ told → answer ≡ answer_by told image i t → answer ≡ answer_by end image i t
 ended image i t e q = q ∙ ap (λ (x : End). answer_by x image i t) (sym e)
 
 -- what a run leaves, by what is reported of it
-pub run_left : (image : List ℕ) (i : ℕ) {r : Ran} {report : Report} {cells : List ℕ} {answer : Answer} → ran_as report cells ≡ r
+pub run_left : (image : List ℕ) (i : ℕ) {r : Ran} {report : Report} {cells : List ℕ} {answer : Told} → ran_as report cells ≡ r
     → answer ≡ answer_by report.end image i (tally_of cells report.burns report.new) → outcome answer cells ≡ ran_of image i r
-run_left image i {cells = cells} e q = ap (λ (answer : Answer). outcome answer cells) q ∙ ap (ran_of image i) e
+run_left image i {cells = cells} e q = ap (λ (answer : Told). outcome answer cells) q ∙ ap (ran_of image i) e
 
--- ---- an erasure, by the number that its judging gives
+-- ---- an erasure, by what its two checks give
 
-module _ (image marks : List ℕ) (i : ℕ) (s : State) {check : Check} (c : check ≡ check_of image s.cells marks)
-    {n : ℕ} (q : n ≡ refusal_by check image i s.context) where
-  abbrev tests : List (Bool × ℕ)
-  tests = erase_tests image marks i s
-
-  -- it is the number of all tests
-  number : n ≡ number_of tests
-  number = q ∙ by check c
-    where
-      by : (check : Check) → check ≡ check_of image s.cells marks → refusal_by check image i s.context ≡ number_of tests
-      by (NotReady m) c = sym (check_refused (λ n. n) (partition_tests image i s.context) 0 image s.cells marks m c)
-      by (Ready header) c = sym (check_passed (λ n. n) (partition_tests image i s.context) 0 image s.cells marks header c)
+module _ (image marks : List ℕ) (i : ℕ) (s : State) where
+  abbrev rest : List (Bool × Refusal)
+  rest = partition_tests image i s.context
 
   module _ (k mask : ℕ) where
-    abbrev runs : Outcome Answer State
+    abbrev runs : Outcome Told State
     runs = burning image marks i k mask s
 
-    pub erase_refused : (n ≡ 0 → ⊥) → outcome (Refused n 0) s ≡ erase_of image marks i k mask s
+    -- the drive's refuses
+    pub erase_unchecked : (r : Refusal) → Err r ≡ check_of image s.cells marks → outcome (unburned r) s ≡ erase_of image marks i k mask s
     unfolding erase_of
-    erase_refused o = sym (number_refuses (refusing unburned s) [] runs tests n number o)
+    erase_unchecked r c = sym (check_refused (refusing unburned s) rest runs image s.cells marks r c)
 
-    pub erase_runs : n ≡ 0 → {answer : Answer} {cells : List ℕ} → outcome answer cells ≡ ran_of image i (run_on image s.cells marks i k mask)
-        → outcome answer (with_cells cells s) ≡ erase_of image marks i k mask s
-    unfolding erase_of
-    erase_runs z e = ap (on_cells s) e ∙ sym (number_passes (refusing unburned s) [] runs tests refl (sym z ∙ number)).is
+    module _ {header : Header} (c : Ok header ≡ check_of image s.cells marks) where
+      checked : first_of (refusing unburned s) (rest ++ []) runs ≡ erase_of image marks i k mask s
+      unfolding erase_of
+      checked = sym (check_passed (refusing unburned s) rest runs image s.cells marks header c)
 
-  pub erasable : n ≡ 0 → Erasable image s.cells marks i
-  erasable z =
-      let passed = number_passes (λ (n : ℕ). n) [] 0 tests refl (sym z ∙ number) in
-      let told = judged image s.cells marks (header_of image) (check_past image s.cells marks (passed.none 0, (passed.none 1, tt)) refl) in
+      -- the partition's refuses
+      pub erase_refused : (r : Refusal) → Err r ≡ judged rest → outcome (unburned r) s ≡ erase_of image marks i k mask s
+      erase_refused r e = sym (judged_refuses (refusing unburned s) [] runs rest r e) ∙ checked
+
+      -- neither does
+      pub erase_runs : Ok tt ≡ judged rest → {answer : Told} {cells : List ℕ} → outcome answer cells ≡ ran_of image i (run_on image s.cells marks i k mask)
+          → outcome answer (with_cells cells s) ≡ erase_of image marks i k mask s
+      erase_runs z e = ap (on_cells s) e ∙ (sym (judged_passes (refusing unburned s) [] runs rest z).is ∙ checked)
+
+  pub erasable : {header : Header} → Ok header ≡ check_of image s.cells marks → Ok tt ≡ judged rest → Erasable image s.cells marks i
+  erasable c z =
+      let passed = judged_passes {A = Result ⊤ Refusal} Err [] (Ok (tt {0})) rest z in
+      let drive = judged_drive image s.cells marks _ c in
       record {
-        whole = told.whole;
-        marks_long = told.marks_long ∙ sym told.whole.long;
-        partition = leb-false _ _ (passed.none 2);
-        may = not-false _ (passed.none 3);
+        whole = drive.whole;
+        marks_long = drive.marks_long ∙ sym drive.whole.long;
+        partition = leb-false _ _ (passed.none 0);
+        may = not-false _ (passed.none 1);
       }
 
 -- ---- a cut erasure, with its context
 
-module _ {answer : Answer} {s : State} {o : Outcome Answer State} (e : outcome answer s ≡ o) where
+module _ {answer : Told} {s : State} {o : Outcome Told State} (e : outcome answer s ≡ o) where
   left_by : {cut : Bool} → is_cut answer ≡ cut → outcome answer (with_context (cond cut (emptied s.context) s.context) s) ≡ after_cut o
   left_by c = rw (← c) (ap after_cut e)
 

@@ -6,14 +6,14 @@ use Rattle.std.proofs.Common.{leb-false}
 use Rattle.std.proofs.Math.Bool.{true}
 use mathlib.Core.List.{List}
 use Rattle.std.proofs.lemmas.Bool.{not-false}
-use Rattle.laws.specs.Refusals.{first_elim}
+use Rattle.refusal.specs.Refusals.{first_elim}
 use Rattle.context.specs.State.{State, Outcome, refusing}
 use Rattle.map.specs.Map.{header_of, entry_of, zeroizable}
 use Rattle.burns.specs.declared.End.{End}
 use Rattle.burns.specs.declared.End.TheVariants.{Whole, Stopped, Cut as CutEnd}
 use Rattle.drive.specs.Drive.{Whole as WholeDrive}
 use Rattle.erasure.specs.declared.Answer.{Answer}
-use Rattle.erasure.specs.Erasure.{erase_tests, run_on, answer_by, unburned, burning, erase_of, erasure_of, cut_erasure_of}
+use Rattle.erasure.specs.Erasure.{erase_tests, run_on, answer_by, unburned, burning, erase_of, erasure_of, cut_erasure_of, Told}
 use Rattle.erasure.proofs.Cuts.{whole_by}
 use Rattle.erasure.specs.Ends.{LeftAs}
 use Rattle.erasure.proofs.Ends.{run_leaves}
@@ -32,7 +32,7 @@ module _ (image marks : List ℕ) (i : ℕ) (s : State) where
   any_leaves : (k mask : ℕ) → let o = erase_of image marks i k mask s in LeftAs image i o.told o.after.cells
   unfolding erase_of
   any_leaves k mask =
-      first_elim (λ (o : Outcome Answer State). LeftAs image i o.told o.after.cells)
+      first_elim (λ (o : Outcome Told State). LeftAs image i o.told o.after.cells)
       (refusing unburned s) (erase_tests image marks i s) (burning image marks i k mask s)
       (λ n _. tt)
       (λ none.

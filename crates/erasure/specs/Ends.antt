@@ -1,17 +1,18 @@
 -- What an erasure leaves of its partition, told by its own answer: one that ended leaves it erased or torn, and 15, which is given exactly
 -- when no indicator fuse is set, leaves every cell. Assumes nothing.
 -- The theorems stand in proofs/Ends.antt and proofs/Leaves.antt.
-use Rattle.std.specs.Prelude.{ℕ, ◌-◌, ◌≤◌, ◌<◌, ◌≡◌, ◌⊎◌, ◌↔◌}
+use Rattle.std.specs.Prelude.{ℕ, ◌-◌, ◌≤◌, ◌<◌, ◌≡◌, ◌⊎◌, ◌↔◌, Ok, Err}
 use mathlib.Core.List.{List}
 use Rattle.std.proofs.Math.ListN.{get_or}
 use Rattle.std.specs.Int.Bits.{bit_or}
+use Rattle.erasure.specs.Erasure.{Told}
 use Rattle.map.specs.Map.{entry_of, end_of}
 use Rattle.fuse.specs.Fuse.{free}
 use Rattle.partition.specs.declared.Survey.{Survey}
 use Rattle.partition.specs.declared.State.TheVariants.{Erased, Torn}
 use Rattle.drive.specs.Drive.{survey_at}
 use Rattle.erasure.specs.declared.Answer.{Answer}
-use Rattle.erasure.specs.declared.Answer.TheVariants.{Ended, Cut, Refused}
+use Rattle.erasure.specs.declared.Answer.TheVariants.{Ended, Cut}
 
 -- the first cell of a zeroizable partition's indicator, its last pair, in the whole array
 abbrev pub indicator_cell : (image : List ℕ) (i : ℕ) → ℕ
@@ -35,7 +36,7 @@ NoneSet image cells marks i = (j : ℕ) → indicator_cell image i ≤ j → j <
 
 -- ---- what an answer says of the partition: one that ended tells its short pairs and the first, any other nothing
 
-abbrev pub LeftAs : (image : List ℕ) (i : ℕ) → Answer → (cells : List ℕ) → Type 0
-LeftAs image i (Ended short first burns new) cells = LeftBy (indicator_cell image i) short first (survey_at image cells i)
-LeftAs image i (Cut burns new) cells = Unit {0}
-LeftAs image i (Refused number burns) cells = Unit {0}
+abbrev pub LeftAs : (image : List ℕ) (i : ℕ) → Told → (cells : List ℕ) → Type 0
+LeftAs image i (Ok (Ended short first burns new)) cells = LeftBy (indicator_cell image i) short first (survey_at image cells i)
+LeftAs image i (Ok (Cut burns new)) cells = Unit {0}
+LeftAs image i (Err refused) cells = Unit {0}

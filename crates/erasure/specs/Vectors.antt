@@ -1,9 +1,10 @@
 -- Erasures of a software partition that starts at cell 6, by computation: what is answered, what is left of the whole array and of the
 -- cache, and each refusal where every later one that can applies too. Document 01's cases are in `history` SmallDrive. Assumes nothing.
-use Rattle.std.specs.Prelude.{ℕ, ◌≡◌, refl, List, [], ◌∷◌, ◌++◌, replicate}
+use Rattle.std.specs.Prelude.{map, ℕ, ◌≡◌, refl, List, [], ◌∷◌, ◌++◌, replicate, Ok, Err}
 use Rattle.std.specs.Int.Count.{ones_in}
 use Rattle.laws.specs.Tests.{every}
 use Rattle.laws.specs.Below.{all_below, count_below, first_from}
+use Rattle.refusal.specs.declared.Refusal.TheVariants.{BadMap, BadLent, NotThere, NotAllowed, SlotInUse, NotMarked}
 use Rattle.endian.specs.Endian.{u16_at}
 use Rattle.map.specs.Map.{header_good, filler_good, entry_good, place_good, map_good}
 use Rattle.map.specs.Image.{image, entry}
@@ -14,8 +15,8 @@ use Rattle.context.specs.State.{state, outcome}
 use Rattle.cache.specs.Cache.{cache_of, is_at, emptied}
 use Rattle.drive.specs.Drive.{whole_arrays}
 use Rattle.erasure.specs.declared.Answer.{Answer}
-use Rattle.erasure.specs.declared.Answer.TheVariants.{Ended, Cut, Refused}
-use Rattle.erasure.specs.Erasure.{run_on, erase_of, erasure_of, cut_erasure_of}
+use Rattle.erasure.specs.declared.Answer.TheVariants.{Ended, Cut}
+use Rattle.erasure.specs.Erasure.{run_on, erase_of, erasure_of, cut_erasure_of, Told, unburned}
 
 abbrev all : ℕ
 all = 0xFFFF_FFFF
@@ -47,9 +48,9 @@ erasures :
     ∷ erasure_of drive (marks 0 0xFFFF_FFFE all) 1 (state start waits)
     ∷ erasure_of drive (marks 0 all all) 1 (state start waits)
     ∷ []
-    ≡ outcome (Ended 1 6 4 185) (state (cells all 0xFFFF_FFE0 all all all all) waits)
-    ∷ outcome (Ended 1 10 4 127) (state (cells all all all all 1 0) waits)
-    ∷ outcome (Refused 15 1) (state start waits)
+    ≡ outcome (Ok (Ended 1 6 4 185)) (state (cells all 0xFFFF_FFE0 all all all all) waits)
+    ∷ outcome (Ok (Ended 1 10 4 127)) (state (cells all all all all 1 0) waits)
+    ∷ outcome (Err (record { refusal = NotMarked; burns = 1 })) (state start waits)
     ∷ []
 unfolding erase_of map_good whole_arrays every header_good filler_good entry_good place_good all_below u16_at run_on burns_of order words_from burn_word burn_cell new_fuses set_fuses stops_after
     goes_on marked short_at count_below lowest_short first_from ones_in cache_of is_at
@@ -58,16 +59,16 @@ erasures = refl
 -- cut at the second data word, burn 2: the mask's low 32 bits go into it, three burns; a cut at burn 4, past the order, is none, and
 -- leaves the cache
 cuts : cut_erasure_of drive (marks 0 0 0) 1 2 0x3_0000_0005 (state start waits) ∷ cut_erasure_of drive (marks 0 0 0) 1 4 0 (state start waits) ∷ []
-    ≡ outcome (Cut 3 96) (state (cells all 5 0 0 all all) none) ∷ outcome (Ended 0 0xFFFF_FFFF 4 190) (state (cells all all all all all all) waits) ∷ []
+    ≡ outcome (Ok (Cut 3 96)) (state (cells all 5 0 0 all all) none) ∷ outcome (Ok (Ended 0 0xFFFF_FFFF 4 190)) (state (cells all all all all all all) waits) ∷ []
 unfolding erase_of map_good whole_arrays every header_good filler_good entry_good place_good all_below u16_at run_on burns_of order words_from burn_word burn_cell new_fuses set_fuses stops_after
     goes_on marked short_at count_below lowest_short first_from ones_in cache_of is_at emptied
 cuts = refl
 
 -- 1, 2, 7, 8 and 10, with a key that waits, and every fuse of the slot's indicator stuck, so that 15 would follow 10
-abbrev refusal_of : (image cells : List ℕ) (i : ℕ) → Answer
+abbrev refusal_of : (image cells : List ℕ) (i : ℕ) → Told
 refusal_of image cells i = (erasure_of image (replicate 4 0 ++ (all ∷ all ∷ replicate 10 0)) i (state cells waits)).told
 
 refusals : refusal_of [] [] 9 ∷ refusal_of drive [] 9 ∷ refusal_of drive start 3 ∷ refusal_of drive start 2 ∷ refusal_of drive start 0 ∷ []
-    ≡ Refused 1 0 ∷ Refused 2 0 ∷ Refused 7 0 ∷ Refused 8 0 ∷ Refused 10 0 ∷ []
+    ≡ map unburned (BadMap ∷ BadLent ∷ NotThere ∷ NotAllowed ∷ SlotInUse ∷ [])
 unfolding erase_of map_good whole_arrays every header_good filler_good entry_good place_good all_below u16_at first_from cache_of is_at
 refusals = refl

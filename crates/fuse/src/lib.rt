@@ -4,26 +4,11 @@
 // `proofs/Charge`. It rests on `laws` alone.
 #![tactic(auto)]
 
-ghost use Rattle.std.specs.Prelude.{◌≡◌, true, false, ◌+◌, ◌-◌, ◌<◌, ◌≤◌, length};
-ghost use Rattle.std.specs.Int.Bits.{bit_and, bit_or};
-ghost use Rattle.fuse.specs.Fuse.{all_ones, burn, pair_of, ones_of, short, cells_in, burn_cell, burn_word, new_fuses};
+ghost use Rattle.std.specs.Prelude.{◌≡◌, true, false, ◌+◌, ◌<◌, ◌≤◌, length};
+ghost use Rattle.fuse.specs.Fuse.{pair_of, ones_of, short, cells_in, burn_cell, burn_word, new_fuses};
 
 // What ZEROIZE and every whole burn of an erasure burn into a word.
 pub const ALL_ONES: u64 = 0xFFFF_FFFF_FFFF_FFFF;
-
-// What a burn of `value` leaves in a cell whose stuck fuses are marked in `stuck`.
-fn burned(cell: u32, value: u32, stuck: u32) -> u32
-    ensures { result ≡ burn cell value stuck }
-{
-    cell | (value & !stuck)
-}
-
-// The same of a pair, as one number.
-fn burned_pair(fuses: u64, value: u64, stuck: u64) -> u64
-    ensures { result ≡ bit_or fuses (bit_and value (all_ones - stuck)) }
-{
-    fuses | (value & !stuck)
-}
 
 // The 64 fuses of a pair as one number, the low half first.
 pub fn pair(low: u32, high: u32) -> u64
@@ -54,14 +39,14 @@ fn burn_cell(cells: &mut [u32], marks: &[u32], at: usize, value: u32) -> u32
         × (result ≡ new_fuses marks.now at false value cells.old) }
 {
     let before = cells[at];
-    let after = burned(before, value, marks[at]);
+    let after = before | (value & !marks[at]);
     cells[at] = after;
     u32::count_ones(after - before)
 }
 
 // Burns `value` into the pair that starts at `at`, low half first, and touches no other cell. It answers
-// how many fuses it has newly set. Both cells are burned as one number: so the compiler counts them at
-// once.
+// how many fuses it has newly set.
+// Kept beside `burn_cell`: both cells are one number of 64 bits, whose ones are counted at once.
 fn burn_pair(cells: &mut [u32], marks: &[u32], at: usize, value: u64) -> u32
     requires { (at + 2 ≤ length cells.old) × (at + 2 ≤ length marks.now) }
     ensures { (cells.new ≡ burn_word marks.now at true value cells.old)
@@ -69,7 +54,7 @@ fn burn_pair(cells: &mut [u32], marks: &[u32], at: usize, value: u64) -> u32
 {
     let before = pair(cells[at], cells[at + 1]);
     let stuck = pair(marks[at], marks[at + 1]);
-    let after = burned_pair(before, value, stuck);
+    let after = before | (value & !stuck);
     cells[at] = (after % 0x1_0000_0000) as u32;
     cells[at + 1] = (after / 0x1_0000_0000) as u32;
     u64::count_ones(after - before)
@@ -83,7 +68,8 @@ pub fn burn_word(cells: &mut [u32], marks: &[u32], at: usize, wide: bool, value:
         × (result ≡ new_fuses marks.now at wide value cells.old) }
 {
     if wide {
-        return burn_pair(cells, marks, at, value);
+        burn_pair(cells, marks, at, value)
+    } else {
+        burn_cell(cells, marks, at, (value % 0x1_0000_0000) as u32)
     }
-    burn_cell(cells, marks, at, (value % 0x1_0000_0000) as u32)
 }

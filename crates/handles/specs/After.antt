@@ -2,6 +2,7 @@
 use Rattle.std.specs.Prelude.{ℕ, ◌+◌, ◌^◌, ◌≤◌, ◌<◌, ◌≡◌, List, ltb, length, get_or, set, take, drop}
 use Rattle.std.proofs.Common.{sym, ap, ◌∙◌, arith, length-set, length-drop, get_or-set_same, get_or-set_other, get_or-drop, drop-drop}
 use Rattle.laws.specs.Tests.{cond_keeps}
+use Rattle.refusal.specs.Numbers.{number}
 use Rattle.context.specs.Context.{count_at, entries_at, greatest_at, part}
 use Rattle.handles.specs.Handles.{most, entry_of, handle_of, algorithm_of, Long, table_of, handle_at, algorithm_at, rotated, rotated_at}
 use Rattle.handles.specs.Making.{made}

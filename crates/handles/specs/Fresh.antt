@@ -1,16 +1,17 @@
 -- A fresh table: what among, distinct and largest say of a list of numbers, and that a table which is made is fresh, with the handles and
 -- algorithms that were given. Assumes nothing.
-use Rattle.std.specs.Prelude.{ℕ, zero, suc, ◌+◌, ◌^◌, ◌≤◌, ◌<◌, ◌≡◌, refl, true, false, not, List, [], ◌∷◌, map, eqb, ltb, length, get_or, take, set}
+use Rattle.std.specs.Prelude.{ℕ, zero, suc, ◌+◌, ◌^◌, ◌≤◌, ◌<◌, ◌≡◌, refl, true, false, not, List, [], ◌∷◌, map, eqb, ltb, length, get_or, take, set, Result, Ok, Err, ⊤}
 use Rattle.std.proofs.Math.Path.{sym}
 use Rattle.std.proofs.Common.{ap, ap₂, subst, ◌∙◌, ⊎_elim, arith, not-suc-le-zero, le_of_suc-le-suc, drop-cons, eqb-true, eq-eqb, lt-ltb, le-leb, ltb-true, ltb-false}
 use Rattle.std.proofs.lemmas.Bool.{false≢true, not-false, not-true}
 use Rattle.std.proofs.Math.Seq.{get_or-set_same, get_or-set_other}
 use Rattle.laws.specs.Tests.{and, either, decided, not_yes, cond_keeps}
-use Rattle.laws.specs.Refusals.{test_at, Past}
+use Rattle.refusal.specs.Refusals.{test_at, Past}
+use Rattle.refusal.specs.declared.Refusal.{Refusal}
+use Rattle.refusal.specs.declared.Refusal.TheVariants.{BadLent}
+use Rattle.refusal.specs.Numbers.{number}
 use Rattle.context.specs.Context.{count_at, entries_at, greatest_at}
 use Rattle.context.specs.State.{Outcome, outcome}
-use Rattle.handles.specs.declared.Answer.{Answer}
-use Rattle.handles.specs.declared.Answer.TheVariants.{Made, Refused}
 use Rattle.handles.specs.Handles.{most, count_good, handle_of, algorithm_of, Table, Long, table_of, handle_at, algorithm_at, handles_in}
 use Rattle.handles.specs.Making.{is_among, distinct, greater, largest, Fresh, entry_from, made, making_tests, making_of}
 use Rattle.handles.specs.Laws.{count_read, greatest_read, good_most, making_past, making_made, making_elim}
@@ -213,11 +214,11 @@ module _ (handles algorithms context : List ℕ) where
       }
 
   -- "anything else .. is refused 2 and changes nothing"
-  pub else_refused : (MayMake handles algorithms context → ⊥) → making_of handles algorithms context ≡ outcome (Refused 2) context
+  pub else_refused : (MayMake handles algorithms context → ⊥) → making_of handles algorithms context ≡ outcome (Err BadLent) context
   else_refused o =
-      making_elim handles algorithms context (λ (r : Outcome Answer (List ℕ)). r ≡ outcome (Refused 2) context) refl (λ none. absurd (o (passed_may none)))
+      making_elim handles algorithms context (λ (r : Outcome (Result ⊤ Refusal) (List ℕ)). r ≡ outcome (Err BadLent) context) refl (λ none. absurd (o (passed_may none)))
 
-  pub may_made : MayMake handles algorithms context → making_of handles algorithms context ≡ outcome Made (made handles algorithms context)
+  pub may_made : MayMake handles algorithms context → making_of handles algorithms context ≡ outcome (Ok tt) (made handles algorithms context)
   may_made m =
       let good : count_good (length handles) ≡ true = rw (lt-ltb 0 (length handles) m.least) (le-leb _ _ m.most_three) in
       let past : Past 4 (making_tests handles algorithms context) =

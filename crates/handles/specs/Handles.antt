@@ -1,6 +1,7 @@
 -- Request P6: the table of transport handles, as it is read and as a rotation leaves it. Assumes nothing.
 use Rattle.std.specs.Prelude.{ℕ, ◌+◌, ◌-◌, ◌*◌, ◌/◌, ◌%◌, ◌^◌, ◌≤◌, Bool, cond, ◌&&◌, List, map, eqb, ltb, leb, length, get_or, set, take}
 use Rattle.laws.specs.Below.{first_below}
+use Rattle.refusal.specs.Numbers.{number}
 use Rattle.context.specs.Context.{count_at, entries_at, greatest_at, part}
 
 -- ---- the table, as it is read

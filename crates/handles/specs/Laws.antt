@@ -1,20 +1,21 @@
 -- The table's laws: a table as the code reads it, a rotation, a fresh table that is made, and what each leaves. Assumes nothing.
-use Rattle.std.specs.Prelude.{ℕ, ◌+◌, ◌^◌, ◌≤◌, ◌<◌, ◌≡◌, Bool, true, false, not, ◌&&◌, ◌||◌, eqb, ltb, length, get_or, set}
+use Rattle.std.specs.Prelude.{◌||◌, not, Bool, ℕ, ◌+◌, ◌^◌, ◌≤◌, ◌<◌, ◌≡◌, max, true, false, ◌&&◌, eqb, ltb, length, get_or, set, Result, Ok, Err, ⊤}
 use Rattle.std.proofs.Math.Path.{refl, sym}
-use Rattle.std.proofs.Common.{ap, subst, inl, inr, arith, lt-ltb, le-ltb, ltb-true, eqb-true, leb-true, leb-false, eq-eqb, ne_eqb}
+use Rattle.std.proofs.Common.{ap, subst, inl, inr, arith, lt-ltb, le-ltb, ltb-true, ltb-false, eqb-true, leb-true, leb-false, eq-eqb, ne_eqb}
 use mathlib.Core.List.{List, [], ◌∷◌, ◌++◌}
 use Rattle.std.proofs.lemmas.Bool.{not-false}
-use Rattle.laws.specs.Tests.{and}
+use Rattle.laws.specs.Tests.{and, cond_keeps}
 use Rattle.laws.proofs.Below.{first_tells, first_least}
-use Rattle.laws.specs.Refusals.{first_of, number_of, number_refuses, number_passes, Accepted, test_at, refusal_at, Past, refused_at, past_all, first_elim, Applies}
+use Rattle.refusal.specs.Refusals.{test_at, refusal_at, Past, refused_at, past_all, first_elim, Applies, judged, judged_refuses, judged_passes}
+use Rattle.refusal.specs.declared.Refusal.{Refusal}
+use Rattle.refusal.specs.declared.Refusal.TheVariants.{BadLent}
+use Rattle.refusal.specs.Numbers.{number}
 use Rattle.context.specs.Context.{count_at, entries_at, greatest_at}
 use Rattle.context.specs.Laws.{part_at}
 use Rattle.context.specs.State.{Outcome, outcome, refusing}
 use Rattle.handles.specs.Handles.{most, count_good, entry_of, handle_of, algorithm_of, Table, table_of, handle_at}
 use Rattle.handles.specs.Handles.{algorithm_at, is_held_at, lowest_with, has_handle, last_number, used_up, rotated, rotated_at}
 use Rattle.handles.specs.Making.{distinct, greater, largest, made, making_tests, making_of}
-use Rattle.handles.specs.declared.Answer.{Answer}
-use Rattle.handles.specs.declared.Answer.TheVariants.{Made, Refused}
 
 -- ---- the table, at the words that were read
 
@@ -82,7 +83,7 @@ module _ (k number : ℕ) (context : List ℕ) where
 
 -- ---- a table that is made
 
--- the tests for at most three handles
+-- distinctness of at most three handles, test by test
 pub distinct_one : (handles : List ℕ) → length handles < 2 → true ≡ distinct handles
 distinct_one [] l = refl
 distinct_one (a ∷ []) l = refl
@@ -112,6 +113,7 @@ distinct_three (a ∷ b ∷ c ∷ []) l o = rw (ne_eqb a b o) (by (eqb a c) (eqb
     by false false = refl
 distinct_three (a ∷ b ∷ c ∷ d ∷ rest) l o = absurd (omega arith)
 
+-- nothing is greater than a number and 0, and so of at most three handles
 greater_none : (n : ℕ) → greater n 0 ≡ n
 greater_none n = simp (le-ltb n 0 (omega arith))
 
@@ -122,43 +124,47 @@ largest_three (a ∷ b ∷ []) l = refl
 largest_three (a ∷ b ∷ c ∷ []) l = ap (λ (n : ℕ). greater a (greater b n)) (sym (greater_none c))
 largest_three (a ∷ b ∷ c ∷ d ∷ rest) l = absurd (omega arith)
 
--- the number, by the place of the test that gives it, and the answer by the number
+-- the greater of two is the language's
+pub greater_max : (n m : ℕ) → greater n m ≡ max n m
+greater_max n m = cond_keeps (λ (x : ℕ). x ≡ max n m) (ltb n m) m n (λ y. omega (arith, ltb-true n m y)) (λ o. omega (arith, ltb-false n m o))
+
+-- the refusal, by the place of the test that gives it, and the answer by the refusal
 module _ (handles algorithms context : List ℕ) where
-  pub making_at : (k : ℕ) → Past k (making_tests handles algorithms context) → test_at (making_tests handles algorithms context) k ≡ true
-      → refusal_at (making_tests handles algorithms context) k ≡ number_of (making_tests handles algorithms context)
-  making_at k = refused_at (λ n. n) 0 k (making_tests handles algorithms context)
+  abbrev tests : List (Bool × Refusal)
+  tests = making_tests handles algorithms context
 
-  pub making_past : Past 4 (making_tests handles algorithms context) → 0 ≡ number_of (making_tests handles algorithms context)
-  making_past = past_all (λ n. n) 0 (making_tests handles algorithms context)
+  abbrev taken : Outcome (Result ⊤ Refusal) (List ℕ)
+  taken = outcome (Ok tt) (made handles algorithms context)
 
-  pub making_refused : (n : ℕ) → n ≡ number_of (making_tests handles algorithms context) → (n ≡ 0 → ⊥) → outcome (Refused n) context ≡ making_of handles algorithms context
+  pub making_at : (k : ℕ) → Past k tests → test_at tests k ≡ true → Err (refusal_at tests k) ≡ judged tests
+  making_at k = refused_at Err (Ok tt) k tests
+
+  pub making_past : Past 4 tests → Ok tt ≡ judged tests
+  making_past = past_all Err (Ok tt) tests
+
+  pub making_refused : (r : Refusal) → Err r ≡ judged tests → outcome (Err r) context ≡ making_of handles algorithms context
   unfolding making_of
-  making_refused n e o = sym (number_refuses (refusing Refused context) [] (outcome Made (made handles algorithms context)) (making_tests handles algorithms context) n e o)
+  making_refused r e = sym (judged_refuses (refusing Err context) [] taken tests r e)
 
-  making_passed : 0 ≡ number_of (making_tests handles algorithms context) → Accepted (making_tests handles algorithms context) (outcome Made (made handles algorithms context))
-      (first_of (refusing Refused context) (making_tests handles algorithms context ++ []) (outcome Made (made handles algorithms context)))
-  making_passed z = number_passes (refusing Refused context) [] (outcome Made (made handles algorithms context)) (making_tests handles algorithms context) refl z
-
-  pub making_made : 0 ≡ number_of (making_tests handles algorithms context) → outcome Made (made handles algorithms context) ≡ making_of handles algorithms context
+  pub making_made : Ok tt ≡ judged tests → taken ≡ making_of handles algorithms context
   unfolding making_of
-  making_made z = sym (making_passed z).is
+  making_made z = sym (judged_passes (refusing Err context) [] taken tests z).is
 
-  pub making_most : 0 ≡ number_of (making_tests handles algorithms context) → length handles ≤ most
-  making_most z = good_most (length handles) (not-false _ ((making_passed z).none 1))
+  pub making_most : Ok tt ≡ judged tests → length handles ≤ most
+  making_most z = good_most (length handles) (not-false _ ((judged_passes (refusing Err context) [] taken tests z).none 1))
 
 -- what holds of its refusal, and of what it leaves where nothing refuses it, holds of a table that is to be made
-pub making_elim : (handles algorithms context : List ℕ) (P : Outcome Answer (List ℕ) → Type 0) → P (outcome (Refused 2) context)
-    → (((k : ℕ) → test_at (making_tests handles algorithms context) k ≡ false) → P (outcome Made (made handles algorithms context)))
+pub making_elim : (handles algorithms context : List ℕ) (P : Outcome (Result ⊤ Refusal) (List ℕ) → Type 0) → P (outcome (Err BadLent) context)
+    → (((k : ℕ) → test_at (making_tests handles algorithms context) k ≡ false) → P (outcome (Ok tt) (made handles algorithms context)))
     → P (making_of handles algorithms context)
 unfolding making_of
-making_elim handles algorithms context P refused taken =
-    let tests = making_tests handles algorithms context in
-    first_elim P (refusing Refused context) tests (outcome Made (made handles algorithms context))
-    (λ n a. subst (λ (m : ℕ). P (outcome (Refused m) context)) (sym (two n a)) refused) taken
+making_elim handles algorithms context P refused done =
+    first_elim P (refusing Err context) (making_tests handles algorithms context) (outcome (Ok tt) (made handles algorithms context))
+    (λ r a. subst (λ (r : Refusal). P (outcome (Err r) context)) (sym (two r a)) refused) done
   where
-    two : (n : ℕ) → Applies n (making_tests handles algorithms context) → n ≡ 2
-    two n (inl a) = a.1
-    two n (inr (inl a)) = a.1
-    two n (inr (inr (inl a))) = a.1
-    two n (inr (inr (inr (inl a)))) = a.1
-    two n (inr (inr (inr (inr a)))) = absurd a
+    two : (r : Refusal) → Applies r (making_tests handles algorithms context) → r ≡ BadLent
+    two r (inl a) = a.1
+    two r (inr (inl a)) = a.1
+    two r (inr (inr (inl a))) = a.1
+    two r (inr (inr (inr (inl a)))) = a.1
+    two r (inr (inr (inr (inr a)))) = absurd a

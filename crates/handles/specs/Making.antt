@@ -1,11 +1,12 @@
 -- Request P6: "A fresh table has distinct handles, and their largest as the greatest given", and how one is made. Assumes nothing.
-use Rattle.std.specs.Prelude.{ℕ, ◌+◌, ◌≡◌, Bool, true, false, cond, not, ◌&&◌, ◌||◌, List, [], ◌∷◌, eqb, ltb, length, get_or, set}
-use Rattle.laws.specs.Refusals.{first_of}
+use Rattle.std.specs.Prelude.{ℕ, ◌+◌, ◌≡◌, Bool, true, false, cond, not, ◌&&◌, ◌||◌, List, [], ◌∷◌, eqb, ltb, length, get_or, set, Result, Ok, Err, ⊤}
+use Rattle.refusal.specs.Refusals.{first_of}
+use Rattle.refusal.specs.declared.Refusal.{Refusal}
+use Rattle.refusal.specs.declared.Refusal.TheVariants.{BadLent}
+use Rattle.refusal.specs.Numbers.{number}
 use Rattle.context.specs.Context.{count_at, entries_at, greatest_at}
 use Rattle.context.specs.State.{Outcome, outcome, refusing}
 use Rattle.handles.specs.Handles.{count_good, entry_of, Long, table_of, has_table, handles_in}
-use Rattle.handles.specs.declared.Answer.{Answer}
-use Rattle.handles.specs.declared.Answer.TheVariants.{Made, Refused}
 
 -- a number is one of these
 abbrev pub is_among : (number : ℕ) (numbers : List ℕ) → Bool
@@ -47,13 +48,13 @@ made handles algorithms context =
 
 -- ours, in the words of the request's issue: made "in a context that has none (count 0), from one to three distinct handles with their
 -- algorithms"; "anything else" is 2
-abbrev pub making_tests : (handles algorithms context : List ℕ) → List (Bool × ℕ)
+abbrev pub making_tests : (handles algorithms context : List ℕ) → List (Bool × Refusal)
 making_tests handles algorithms context =
-    (not (eqb (table_of context).count 0), 2)
-    ∷ (not (count_good (length handles)), 2)
-    ∷ (not (eqb (length algorithms) (length handles)), 2)
-    ∷ (not (distinct handles), 2)
+    (not (eqb (table_of context).count 0), BadLent)
+    ∷ (not (count_good (length handles)), BadLent)
+    ∷ (not (eqb (length algorithms) (length handles)), BadLent)
+    ∷ (not (distinct handles), BadLent)
     ∷ []
 
-unfoldable pub making_of : (handles algorithms context : List ℕ) → Outcome Answer (List ℕ)
-making_of handles algorithms context = first_of (refusing Refused context) (making_tests handles algorithms context) (outcome Made (made handles algorithms context))
+unfoldable pub making_of : (handles algorithms context : List ℕ) → Outcome (Result ⊤ Refusal) (List ℕ)
+making_of handles algorithms context = first_of (refusing Err context) (making_tests handles algorithms context) (outcome (Ok tt) (made handles algorithms context))

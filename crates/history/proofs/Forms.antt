@@ -1,13 +1,15 @@
 -- Demand 3, what its proof rests on: an attempt is refused by tests that read no fuse, or it is a run over the partition (`Form`); so what
 -- it does is the same from every state that a history reaches. Here for the erasure and the cut erasure. Assumes nothing.
 -- The definitions stand in specs/Forms.antt.
-use Rattle.std.specs.Prelude.{ℕ, ◌≤◌, ◌<◌, ◌≡◌, Bool, true, false, List, []}
+use Rattle.std.specs.Prelude.{ℕ, ◌≤◌, ◌<◌, ◌≡◌, Bool, true, false, List, [], Ok, Err}
 use Rattle.std.proofs.Math.Path.{refl, ap}
 use Rattle.std.proofs.Common.{sym, subst, ◌∙◌, arith}
 use Rattle.std.proofs.Math.Logic.{⊎_elim}
 use borrow.Author.Tests.{not-false, leb-false}
 use Rattle.laws.specs.Tests.{decided}
-use Rattle.laws.specs.Refusals.{first_of, any_applies, number_of, any_refuses, none_accepts, number_applies, not_numbered, applies_least}
+use Rattle.refusal.specs.Refusals.{first_of, any_applies, any_refuses, none_accepts, not_numbered, applies_least, the_first, first_applies}
+use Rattle.refusal.specs.declared.Refusal.{Refusal}
+use Rattle.refusal.specs.declared.Refusal.TheVariants.{BadMap}
 use Rattle.context.specs.State.{State, Outcome, refusing}
 use Rattle.map.specs.Map.{header_of, entry_of, zeroizable, map_good}
 use Rattle.drive.specs.Drive.{Whole as WholeDrive, whole_arrays}
@@ -17,9 +19,8 @@ use Rattle.handles.specs.Handles.{table_of}
 use Rattle.burns.specs.declared.End.{End}
 use Rattle.burns.specs.declared.End.TheVariants.{Stopped, Cut as CutEnd}
 use Rattle.burns.specs.Run.{Tally, Ran}
-use Rattle.erasure.specs.declared.Answer.{Answer}
-use Rattle.erasure.specs.declared.Answer.TheVariants.{Ended, Cut, Refused as RefusedErasure}
-use Rattle.erasure.specs.Erasure.{run_on, answer_by, ran_of, unburned, erase_tests, burning, erase_of}
+use Rattle.erasure.specs.declared.Answer.TheVariants.{Ended, Cut}
+use Rattle.erasure.specs.Erasure.{Told as Erasure, run_on, answer_by, ran_of, unburned, erase_tests, burning, erase_of}
 use Rattle.erasure.proofs.Cuts.{past_order, whole_by}
 use Rattle.history.specs.Calls.{occupied, Call, Direct, Erase, EraseCut, Mailbox, TakeReply, MakeTable, Restart, Told, Erasing, told, refusal}
 use Rattle.history.proofs.Kept.{emptied_table}
@@ -85,7 +86,7 @@ module _ (image marks : List ℕ) (i : ℕ) (start : State) where
         → ((s : State) → Quiet start s → DoesAll image marks call s t s.cells)
         → Form call
     -- it is a run, tells what the run answers, of which the number is not compared, and is cut only if the call is
-    runs : (k mask : ℕ) (tell : Answer → Told) → Ready → ((answer : Answer) → compared (tell answer) ≡ compared (tell (numberless answer)))
+    runs : (k mask : ℕ) (tell : Erasure → Told) → Ready → ((answer : Erasure) → compared (tell answer) ≡ compared (tell (numberless answer)))
         → ((t : Tally) → refusal (tell (answer_by Stopped image i t)) ≡ 15)
         → ((s : State) → Quiet start s → Uncut image marks call s → (run_from k mask s).end ≡ CutEnd → ⊥)
         → ((s : State) → Quiet start s → DoesAll image marks call s (tell (ran_of image i (run_from k mask s)).told) (run_from k mask s).tally.cells)
@@ -93,16 +94,16 @@ module _ (image marks : List ℕ) (i : ℕ) (start : State) where
 
   -- ---- the erasure and the cut erasure
 
-  erased_compared : (answer : Answer) → compared (Erasing answer) ≡ compared (Erasing (numberless answer))
-  erased_compared (Ended short first burns new) = refl
-  erased_compared (Cut burns new) = refl
-  erased_compared (RefusedErasure number burns) = refl
+  erased_compared : (answer : Erasure) → compared (Erasing answer) ≡ compared (Erasing (numberless answer))
+  erased_compared (Ok (Ended short first burns new)) = refl
+  erased_compared (Ok (Cut burns new)) = refl
+  erased_compared (Err refused) = refl
 
   module _ (k mask : ℕ) where
-    abbrev erasing : State → Outcome Answer State
+    abbrev erasing : State → Outcome Erasure State
     erasing s = erase_of image marks i k mask s
 
-    start_tests : List (Bool × ℕ)
+    start_tests : List (Bool × Refusal)
     start_tests = erase_tests image marks i (quiet start)
 
     by_tests : (s : State) → Quiet start s → erasing s ≡ first_of (refusing unburned s) start_tests (burning image marks i k mask s)
@@ -119,19 +120,19 @@ module _ (image marks : List ℕ) (i : ℕ) (start : State) where
     erase_form call is uncut =
         ⊎_elim
         (λ (y : any_applies start_tests ≡ true).
-        let n = number_of start_tests in
-        let applies = number_applies start_tests y in
-        refuses (Erasing (RefusedErasure n 0)) (applies_least 1 start_tests refl n applies) (λ e. not_numbered 15 start_tests refl applies e)
+        let r = the_first start_tests in
+        let applies = first_applies start_tests y in
+        refuses (Erasing (unburned r)) (applies_least 1 start_tests refl r applies) (λ e. not_numbered 15 start_tests refl r applies e)
         (λ s q response block l.
-        let e : erasing s ≡ refusing unburned s n = by_tests s q ∙ any_refuses (refusing unburned s) (burning image marks i k mask s) start_tests y in
-        ((is s response block).0 ∙ ap (λ (o : Outcome Answer State). Erasing o.told) e, (is s response block).1 ∙ ap (λ (o : Outcome Answer State). o.after.cells) e)))
+        let e : erasing s ≡ refusing unburned s r = by_tests s q ∙ any_refuses (refusing unburned s) (burning image marks i k mask s) start_tests y in
+        ((is s response block).0 ∙ ap (λ (o : Outcome Erasure State). Erasing o.told) e, (is s response block).1 ∙ ap (λ (o : Outcome Erasure State). o.after.cells) e)))
         (λ (o : any_applies start_tests ≡ false).
-        let none = (none_accepts (λ n. n) 0 start_tests o).none in
+        let none = (none_accepts (λ r. r) BadMap start_tests o).none in
         let ready : Ready = record { good = not-false _ (none 0); arrays = not-false _ (none 1); partition = leb-false _ _ (none 2); may = not-false _ (none 3) } in
         let did : (s : State) → Quiet start s → DoesAll image marks call s (Erasing (ran_of image i (run_from k mask s)).told) (run_from k mask s).tally.cells
         = λ s q response block l.
         (let e : erasing s ≡ burning image marks i k mask s = by_tests s q ∙ (none_accepts (refusing unburned s) (burning image marks i k mask s) start_tests o).is in
-        ((is s response block).0 ∙ ap (λ (o : Outcome Answer State). Erasing o.told) e, (is s response block).1 ∙ ap (λ (o : Outcome Answer State). o.after.cells) e)) in
+        ((is s response block).0 ∙ ap (λ (o : Outcome Erasure State). Erasing o.told) e, (is s response block).1 ∙ ap (λ (o : Outcome Erasure State). o.after.cells) e)) in
         runs k mask Erasing ready erased_compared (λ t. refl) (λ s q u. uncut ready s q (as_lent image marks call s (did s q)).0 u) did)
         (decided (any_applies start_tests))
 

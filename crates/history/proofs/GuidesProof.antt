@@ -1,12 +1,14 @@
 -- Request P7, the theorem of `Guides`: past the map's own check nothing but the word that a ZEROIZE answers reads flag 8. Assumes nothing.
-use Rattle.std.specs.Prelude.{ℕ, ◌≡◌, Bool, true, false, cond, length}
+use Rattle.std.specs.Prelude.{ℕ, ◌≡◌, Bool, true, false, cond, length, Option, Some, None, Result, Err, Ok}
 use Rattle.std.proofs.Math.Path.{refl, ap}
 use Rattle.std.proofs.Common.{sym, ap₂, ◌∙◌}
 use Rattle.std.proofs.lemmas.Bool.{false≢true}
 use mathlib.Core.List.{List, [], ◌∷◌, ◌++◌}
 use Rattle.laws.specs.Below.{first_below}
 use Rattle.laws.proofs.Below.{first_same}
-use Rattle.laws.specs.Refusals.{first_of, first_both}
+use Rattle.refusal.specs.Refusals.{first_of, first_both}
+use Rattle.refusal.specs.declared.Refusal.{Refusal}
+use Rattle.refusal.specs.declared.Refusal.TheVariants.{BadLent}
 use Rattle.context.specs.State.{State, Outcome, outcome, refusing, telling, on_cells}
 use Rattle.map.specs.Map.{header_of, entry_of, secret, map_good}
 use Rattle.map.proofs.Laws.{map_header}
@@ -15,25 +17,23 @@ use Rattle.map.proofs.Guides.{same_header, same_entry, same_zeroizable, same_sec
 use Rattle.map.specs.declared.Header.{Header}
 use Rattle.map.specs.declared.Entry.{Entry}
 use Rattle.fuse.specs.Fuse.{short}
-use Rattle.word.specs.declared.Lookup.{Lookup}
-use Rattle.word.specs.declared.Lookup.TheVariants.{Word, Nothing as NoWord}
+use Rattle.word.specs.declared.Word.{Word}
 use Rattle.word.specs.Word.{word_in, is_held_at, partition_of, word_at}
 use Rattle.drive.specs.Drive.{whole_arrays, drive_tests, cells_of, survey_at, marked_at, slot_at, present, open_slot, active_place, active_slot, slot_in_use}
 use Rattle.burns.specs.declared.End.{End}
 use Rattle.burns.specs.declared.End.TheVariants.{Whole, Stopped, Cut as CutEnd}
 use Rattle.burns.specs.Run.{Tally}
-use Rattle.erasure.specs.declared.Answer.{Answer as Erasure}
-use Rattle.erasure.specs.Erasure.{partition_tests, run_on, never, answer_by, ran_of, unburned, erase_of, after_cut}
+use Rattle.erasure.specs.Erasure.{Told as Erasure, partition_tests, run_on, never, answer_by, ran_of, unburned, erase_of, after_cut}
 use Rattle.codec.specs.declared.Command.{Command as Code}
 use Rattle.codec.specs.declared.Command.TheVariants.{Clkc, Klod, Kunl, Fers, Fsta, Ehdl, Rhpk, Unknown}
 use Rattle.codec.specs.Fields.{command_of}
 use Rattle.codec.specs.Request.{request_tests}
-use Rattle.mailbox.specs.Mailbox.{refused, fers_of, partition_in, accepted, command_tests, engine_tests, handle_tests, lent_bad, done_of}
+use Rattle.mailbox.specs.Mailbox.{fers_of, partition_in, accepted, command_tests, engine_tests, handle_tests, lent_bad, done_of}
 use Rattle.mailbox.specs.Mailbox.{Lent, lent, written_out, mailbox_of}
 use Rattle.direct.specs.declared.Command.{Command}
 use Rattle.direct.specs.declared.Command.TheVariants.{Read, Write, Zeroize}
 use Rattle.direct.specs.declared.Answer.{Answer}
-use Rattle.direct.specs.declared.Answer.TheVariants.{Word as Shown, Burned, Withheld, Refused}
+use Rattle.direct.specs.declared.Answer.TheVariants.{Word as Shown, Burned, Withheld}
 use Rattle.direct.specs.Direct.{cell_of, word_of, forbidden, changes_slot, word_tests, direct_tests, cells_after, new_after, told_word, answer_of, carried_out, direct_of}
 use Rattle.direct.proofs.Laws.{direct_at}
 use Rattle.history.specs.Calls.{Call, Direct, Erase, EraseCut, Mailbox, TakeReply, MakeTable, Restart, Told, Answering, Erasing}
@@ -43,7 +43,7 @@ use Rattle.history.specs.Guides.{wordless, zeroizes, OnlyTheWord}
 -- ---- what reads no flag 8
 
 -- equal tests and equal accepted answers give the same
-first_by : {A : Type 0} (refuse : ℕ → A) {tests tests' : List (Bool × ℕ)} {accepted accepted' : A} → tests' ≡ tests → accepted' ≡ accepted
+first_by : {A : Type 0} (refuse : Refusal → A) {tests tests' : List (Bool × Refusal)} {accepted accepted' : A} → tests' ≡ tests → accepted' ≡ accepted
     → first_of refuse tests' accepted' ≡ first_of refuse tests accepted
 first_by refuse p q = ap₂ (λ tests accepted. first_of refuse tests accepted) p q
 
@@ -105,59 +105,59 @@ module _ (image other marks : List ℕ) (d : Differ8 image other) (good : map_go
   unfolding marked_at
   marked_same cells i = rw (part cells i, same_zeroizable (entry i))
 
-  word_tests_lem : (found : Lookup) (command : Command) (s : State) → word_tests found command other s ≡ word_tests found command image s
+  word_tests_lem : (found : Option Word) (command : Command) (s : State) → word_tests found command other s ≡ word_tests found command image s
   unfolding forbidden changes_slot
-  word_tests_lem NoWord command s = refl
-  word_tests_lem (Word i role wide) (Read cell) s = rw (same_secret (entry i))
-  word_tests_lem (Word i role wide) (Write cell value) s = rw ((entry i).kind, marked_same s.cells i, same_slot (entry i))
-  word_tests_lem (Word i role wide) (Zeroize cell) s = rw (same_zeroizable (entry i), same_slot (entry i))
+  word_tests_lem None command s = refl
+  word_tests_lem (Some word) (Read cell) s = rw (same_secret (entry word.partition))
+  word_tests_lem (Some word) (Write cell value) s = rw ((entry word.partition).kind, marked_same s.cells word.partition, same_slot (entry word.partition))
+  word_tests_lem (Some word) (Zeroize cell) s = rw (same_zeroizable (entry word.partition), same_slot (entry word.partition))
 
-  direct_tests_lem : (found : Lookup) (command : Command) (s : State) → direct_tests found command other marks s ≡ direct_tests found command image marks s
+  direct_tests_lem : (found : Option Word) (command : Command) (s : State) → direct_tests found command other marks s ≡ direct_tests found command image marks s
   direct_tests_lem found command s = ap₂ ◌++◌ (drive_tests_lem s.cells) (word_tests_lem found command s)
 
-  carried_same : (found : Lookup) (command : Command) (s : State) → zeroizes (Direct command) ≡ false
+  carried_same : (found : Option Word) (command : Command) (s : State) → zeroizes (Direct command) ≡ false
       → carried_out found command other marks s ≡ carried_out found command image marks s
   unfolding carried_out
-  carried_same NoWord command s o = refl
-  carried_same (Word i role wide) (Read cell) s o = refl
-  carried_same (Word i role wide) (Write cell value) s o = rw (same_secret (entry i))
-  carried_same (Word i role wide) (Zeroize cell) s o = absurd (false≢true (sym o))
+  carried_same None command s o = refl
+  carried_same (Some word) (Read cell) s o = refl
+  carried_same (Some word) (Write cell value) s o = rw (same_secret (entry word.partition))
+  carried_same (Some word) (Zeroize cell) s o = absurd (false≢true (sym o))
 
   direct_same : (command : Command) → zeroizes (Direct command) ≡ false → (s : State) → direct_of other marks command s ≡ direct_of image marks command s
   direct_same command o s =
       let found = word_at image (cell_of command) in
       direct_at other marks command s (word (cell_of command))
-      ∙ first_by (refusing Refused s) (direct_tests_lem found command s) (carried_same found command s o)
+      ∙ first_by (refusing Err s) (direct_tests_lem found command s) (carried_same found command s o)
       ∙ sym (direct_at image marks command s refl)
 
   -- of ZEROIZE all but the word
-  abbrev Alike : Outcome Answer State → Outcome Answer State → Type 0
+  abbrev Alike : Outcome (Result Answer Refusal) State → Outcome (Result Answer Refusal) State → Type 0
   Alike o p = (wordless o.told ≡ wordless p.told) × (o.after ≡ p.after)
 
   shown_alike : (hidden few : Bool) (v w new : ℕ)
-      → wordless (cond hidden (cond few Withheld (Shown v)) (Burned v new)) ≡ wordless (cond hidden (cond few Withheld (Shown w)) (Burned w new))
+      → wordless (Ok (cond hidden (cond few Withheld (Shown v)) (Burned v new))) ≡ wordless (Ok (cond hidden (cond few Withheld (Shown w)) (Burned w new)))
   shown_alike true true v w new = refl
   shown_alike true false v w new = refl
   shown_alike false few v w new = refl
 
   answer_alike : (i cell : ℕ) (wide : Bool) (bound word new : ℕ)
-      → wordless (answer_of (Zeroize cell) (entry_of other i) wide bound word new) ≡ wordless (answer_of (Zeroize cell) (entry_of image i) wide bound word new)
+      → wordless (Ok (answer_of (Zeroize cell) (entry_of other i) wide bound word new)) ≡ wordless (Ok (answer_of (Zeroize cell) (entry_of image i) wide bound word new))
   answer_alike i cell wide bound word new =
       let shown : Entry → ℕ = λ x. told_word x wide word in
       rw (same_secret (entry i)) (shown_alike (secret (entry_of image i)) (short bound word) (shown (entry_of other i)) (shown (entry_of image i)) new)
 
-  carried_alike : (found : Lookup) (cell : ℕ) (s : State)
+  carried_alike : (found : Option Word) (cell : ℕ) (s : State)
       → Alike (carried_out found (Zeroize cell) other marks s) (carried_out found (Zeroize cell) image marks s)
   unfolding carried_out
-  carried_alike NoWord cell s = (refl, refl)
-  carried_alike (Word i role wide) cell s =
-      let stands = word_of wide cell (cells_after (Zeroize cell) wide marks s.cells) in
-      (rw bound (answer_alike i cell wide (header_of image).bound stands (new_after (Zeroize cell) wide marks s.cells)), refl)
+  carried_alike None cell s = (refl, refl)
+  carried_alike (Some word) cell s =
+      let stands = word_of word.wide cell (cells_after (Zeroize cell) word.wide marks s.cells) in
+      (rw bound (answer_alike word.partition cell word.wide (header_of image).bound stands (new_after (Zeroize cell) word.wide marks s.cells)), refl)
 
   zeroize_alike : (cell : ℕ) (s : State) → Alike (direct_of other marks (Zeroize cell) s) (direct_of image marks (Zeroize cell) s)
   zeroize_alike cell s =
       let found = word_at image cell in
-      let refuse = refusing Refused s in
+      let refuse = refusing Err s in
       let there = carried_out found (Zeroize cell) other marks s in
       let at_other = direct_at other marks (Zeroize cell) s (word cell) ∙ first_by refuse (direct_tests_lem found (Zeroize cell) s) refl in
       rw (at_other, direct_at image marks (Zeroize cell) s refl)
@@ -216,9 +216,9 @@ module _ (image other marks : List ℕ) (d : Differ8 image other) (good : map_go
   done_same code request room block s =
       let command = command_of code in
       let rest = engine_tests command s.context ++ handle_tests command s.context request in
-      let later = ap (λ (own : List (Bool × ℕ)). (lent_bad room block s.context, 2) ∷ (request_tests command code request ++ (own ++ rest)))
+      let later = ap (λ (own : List (Bool × Refusal)). (lent_bad room block s.context, BadLent) ∷ (request_tests command code request ++ (own ++ rest)))
       (command_tests_lem command request s) in
-      first_by (refusing refused s.cells) (ap₂ ◌++◌ (drive_tests_lem s.cells) later) (accepted_same command request s)
+      first_by (refusing Err s.cells) (ap₂ ◌++◌ (drive_tests_lem s.cells) later) (accepted_same command request s)
 
   -- ---- every call
 

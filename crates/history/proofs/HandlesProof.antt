@@ -1,15 +1,16 @@
 -- Request P6, the theorem of `Handles`: what each call makes of the table, and what every list of calls keeps. Assumes nothing.
 -- The definitions stand in specs/HandlesProof.antt.
-use Rattle.std.specs.Prelude.{ℕ, ◌%◌, ◌^◌, ◌≤◌, ◌<◌, ◌≡◌, refl, Bool, true, false, cond, List, [], ◌∷◌, ◌++◌, eqb, length, get_or, take, drop}
+use Rattle.std.specs.Prelude.{ℕ, ◌%◌, ◌^◌, ◌≤◌, ◌<◌, ◌≡◌, refl, Bool, true, false, cond, List, [], ◌∷◌, ◌++◌, eqb, length, get_or, take, drop, Result, ⊤, Ok, Err}
 use Rattle.std.proofs.Common.{sym, ap, subst, ◌∙◌, ⊎_elim, append-nil, arith, take_at, eqb-true, ne_eqb}
 use Rattle.std.proofs.lemmas.Bool.{false≢true, eqb-false, not-false}
 use Rattle.laws.specs.Tests.{decided, not_yes, cond_keeps}
-use Rattle.laws.specs.Refusals.{test_at}
+use Rattle.refusal.specs.Refusals.{test_at}
+use Rattle.refusal.specs.declared.Refusal.{Refusal}
+use Rattle.refusal.specs.Numbers.{number}
 use Rattle.context.specs.Context.{count_at}
 use Rattle.context.specs.State.{State, Outcome, outcome}
 use Rattle.cache.specs.Cache.{cache_of, load_reply, unload_reply, emptied}
 use Rattle.cache.proofs.Laws.{waiting_behind, clearing_behind, settled_behind, emptied_behind}
-use Rattle.handles.specs.declared.Answer.{Answer as TableAnswer}
 use Rattle.handles.specs.Handles.{most, count_good, Table, Long, table_of, has_table, handle_at, handles_in, lowest_with, used_up, next_number, rotated_at}
 use Rattle.handles.specs.Making.{is_among, distinct, Fresh}
 use Rattle.handles.specs.Laws.{good_most, next_fits, lowest_tells, making_elim}
@@ -21,10 +22,9 @@ use Rattle.codec.specs.declared.Command.TheVariants.{Clkc, Klod, Kunl, Fers, Fst
 use Rattle.codec.specs.Fields.{code_of, command_of, known, HpkeHandle, one_number, response_of, response_in}
 use Rattle.codec.proofs.Laws.{code_of_lem, response_reads, response_long}
 use Rattle.mailbox.specs.declared.effects.Effect.{Effect}
-use Rattle.mailbox.specs.Mailbox.{refused, handle_in, rotation_of, partition_in, accepted, own_tests, context_after, lent, written_out}
+use Rattle.mailbox.specs.Mailbox.{handle_in, rotation_of, partition_in, accepted, own_tests, context_after, lent, written_out}
 use Rattle.mailbox.proofs.Laws.{fers_context}
 use Rattle.mailbox.proofs.Told.{mailbox_elim}
-use Rattle.reply.specs.declared.Answer.{Answer as ReplyAnswer}
 use Rattle.reply.specs.Reply.{kind_after}
 use Rattle.reply.specs.Laws.{reply_elim}
 use Rattle.history.specs.Calls.{Call, Direct, Erase, EraseCut, Mailbox, TakeReply, MakeTable, Restart}
@@ -136,17 +136,17 @@ module _ (image marks : List ℕ) (s : State) where
 
   -- of the mailbox's commands
   module _ (code : ℕ) (request response block : List ℕ) where
-    abbrev given_of : Outcome Effect (List ℕ) → List ℕ
+    abbrev given_of : Outcome (Result Effect Refusal) (List ℕ) → List ℕ
     given_of d = cond (eqb code (code_of Rhpk)) (given_told (replying (written_out request (lent s response block) d)).told) []
 
-    abbrev DoneStep : Outcome Effect (List ℕ) → Type 0
+    abbrev DoneStep : Outcome (Result Effect Refusal) (List ℕ) → Type 0
     DoneStep d = Step s.context (context_after d.told s.context) (given_of d)
 
-    refused_step : (n : ℕ) → (n ≡ 0 → ⊥) → DoneStep (outcome (refused n) s.cells)
-    refused_step n o = keeps refl (rw (ne_eqb n 0 o) (cond_keeps (λ (g : List ℕ). g ≡ []) (eqb code (code_of Rhpk)) [] [] (λ _. refl) (λ _. refl)))
+    refused_step : (r : Refusal) → DoneStep (outcome (Err r) s.cells)
+    refused_step r = keeps refl (cond_keeps (λ (g : List ℕ). g ≡ []) (eqb code (code_of Rhpk)) [] [] (λ _. refl) (λ _. refl))
 
     -- the number that RHPK tells
-    rotation_given : let t = table_of s.context in code ≡ code_of Rhpk → given_of (outcome (rotation_of t request) s.cells) ≡ next_number t ∷ []
+    rotation_given : let t = table_of s.context in code ≡ code_of Rhpk → given_of (outcome (Ok (rotation_of t request)) s.cells) ≡ next_number t ∷ []
     rotation_given e =
         let t = table_of s.context in
         let numbers = one_number (next_number t) in
@@ -175,13 +175,13 @@ module _ (image marks : List ℕ) (s : State) where
   call_step (EraseCut i k mask) = cut_step i k mask
   call_step (Mailbox code request response block) =
       mailbox_elim image marks code request (length response) (length block) s (DoneStep code request response block)
-      (λ n o _. refused_step code request response block n o)
+      (λ r _. refused_step code request response block r)
       (λ _ _ k none. command_step code request response block (command_of code) (code_of_lem code k) k none)
   call_step (TakeReply reply) =
-      reply_elim reply s.context (λ (o : Outcome ReplyAnswer (List ℕ)). Step s.context o.after [])
+      reply_elim reply s.context (λ (o : Outcome (Result ⊤ Refusal) (List ℕ)). Step s.context o.after [])
       (λ _. keeps refl refl) (λ _. keeps (settled_behind (kind_after reply (cache_of s.context).awaited) s.context) refl)
   call_step (MakeTable handles algorithms) =
-      making_elim handles algorithms s.context (λ (o : Outcome TableAnswer (List ℕ)). Step s.context o.after [])
+      making_elim handles algorithms s.context (λ (o : Outcome (Result ⊤ Refusal) (List ℕ)). Step s.context o.after [])
       (keeps refl refl) (λ none. makes (eqb-true _ _ (not-false _ (none 0))))
   call_step Restart = keeps (emptied_behind s.context) refl
 
@@ -205,7 +205,7 @@ numbers_once image marks start fresh calls =
 pub made_is_fresh : (image marks handles algorithms : List ℕ) (s : State) → Long s.context → ((k : ℕ) → k < length handles → get_or handles k 0 < 2 ^ 32)
     → refusal (told image marks (MakeTable handles algorithms) s) ≡ 0 → Fresh (after image marks (MakeTable handles algorithms) s).context
 made_is_fresh image marks handles algorithms s long fits =
-    making_elim handles algorithms s.context (λ (o : Outcome TableAnswer (List ℕ)). refusal (Making o.told) ≡ 0 → Fresh o.after)
+    making_elim handles algorithms s.context (λ (o : Outcome (Result ⊤ Refusal) (List ℕ)). refusal (Making o.told) ≡ 0 → Fresh o.after)
     (λ z. absurd (omega arith)) (λ none _. made_fresh handles algorithms s.context long fits (not-false _ (none 1)) (not-false _ (none 3)))
 
 -- ---- and one that is there stays, in such a context: its count does not change

@@ -2,21 +2,21 @@
 -- these commands, cuts and restarts, places are held only while the HEK is available"; with request P5, of every place that is not empty,
 -- and of the engine's replies too. Assumes nothing.
 -- The definitions stand in specs/HeldKeys.antt.
-use Rattle.std.specs.Prelude.{ℕ, ◌≤◌, ◌<◌, ◌≡◌, refl, Bool, false, List, [], ◌∷◌, length}
+use Rattle.std.specs.Prelude.{ℕ, ◌≤◌, ◌<◌, ◌≡◌, refl, Bool, false, List, [], ◌∷◌, length, get_or, Option, Some, None, Result, Err, ⊤}
 use Rattle.std.proofs.Common.{sym, ap, subst, ◌∙◌, ⊎_elim, inl, inr, arith}
 use Rattle.std.proofs.Math.Bool.{true}
 use Rattle.std.proofs.lemmas.Bool.{false≢true}
 use borrow.Author.Tests.{not-false, leb-false}
 use Rattle.laws.specs.Tests.{ordered, not_first, cond_keeps}
-use Rattle.laws.specs.Refusals.{test_at, first_elim}
+use Rattle.refusal.specs.Refusals.{test_at, first_elim}
+use Rattle.refusal.specs.declared.Refusal.{Refusal}
 use Rattle.context.specs.State.{State, with_cells, with_context, Outcome, refusing}
 use Rattle.map.specs.Map.{header_of, entry_of, end_of, slot, map_good}
 use Rattle.map.proofs.Laws.{map_order}
 use Rattle.fuse.specs.Fuse.{burn_word}
 use Rattle.fuse.proofs.Burn.{burn_apart}
 use Rattle.word.specs.declared.Role.{Role}
-use Rattle.word.specs.declared.Lookup.{Lookup}
-use Rattle.word.specs.declared.Lookup.TheVariants.{Word, Nothing}
+use Rattle.word.specs.declared.Word.{Word}
 use Rattle.word.specs.Word.{word_at}
 use Rattle.word.specs.Laws.{Found, word_tells}
 use Rattle.drive.specs.Drive.{whole_arrays, cells_of, active_slot, slot_in_use}
@@ -24,20 +24,17 @@ use Rattle.drive.specs.Laws.{active_same}
 use Rattle.cache.specs.Cache.{cache_of, emptied}
 use Rattle.cache.specs.declared.Sought.TheVariants.{Tag}
 use Rattle.cache.proofs.Laws.{emptied_rest, has_occupied, tag_occupies, clearing_occupied, settled_occupied}
-use Rattle.handles.specs.declared.Answer.{Answer as TableAnswer}
 use Rattle.handles.specs.Handles.{table_of}
 use Rattle.handles.specs.Laws.{making_elim}
 use Rattle.direct.specs.declared.Command.{Command}
 use Rattle.direct.specs.declared.Command.TheVariants.{Read, Write, Zeroize}
 use Rattle.direct.specs.declared.Answer.{Answer}
-use Rattle.direct.specs.declared.Answer.TheVariants.{Refused}
 use Rattle.direct.specs.Direct.{cell_of, changes_slot, direct_tests, cells_after, carried_out, direct_by}
 use Rattle.direct.proofs.Laws.{direct_at}
 use Rattle.codec.specs.declared.Command.{Command as Command'}
 use Rattle.codec.specs.declared.Command.TheVariants.{Clkc, Klod, Kunl, Fers, Fsta, Ehdl, Rhpk, Unknown}
 use Rattle.codec.specs.Fields.{command_of, known, request_fields, tag_at}
-use Rattle.erasure.specs.declared.Answer.{Answer as Erasure}
-use Rattle.erasure.specs.Erasure.{erase_tests, never, run_on, unburned, burning, erase_of, uncut_of, is_cut}
+use Rattle.erasure.specs.Erasure.{Told as Erasure, erase_tests, never, run_on, unburned, burning, erase_of, uncut_of, is_cut}
 use Rattle.erasure.specs.Parts.{Apart}
 use Rattle.erasure.proofs.Parts.{run_apart}
 use Rattle.erasure.proofs.Cuts.{whole_by}
@@ -47,7 +44,6 @@ use Rattle.mailbox.proofs.Told.{mailbox_elim}
 use Rattle.mailbox.proofs.Handles.{rotated_cache}
 use Rattle.mailbox.specs.Mailbox.{rotation_of, partition_in, accepted, own_tests, state_after}
 use Rattle.engine.specs.declared.EngineReply.{EngineReply}
-use Rattle.reply.specs.declared.Answer.{Answer as ReplyAnswer}
 use Rattle.reply.specs.Reply.{kind_after}
 use Rattle.reply.specs.Laws.{reply_elim}
 use Rattle.history.specs.Calls.{occupied, Call, Direct, Erase, EraseCut, Mailbox, TakeReply, MakeTable, Restart, after, after_all}
@@ -93,19 +89,19 @@ module _ (image marks : List ℕ) (s : State) (safe : Safe image s) where
   word_safe (Write cell value) i role wide good found n h = rw (word_kept image good found (not_first _ _ n h) marks value s.cells) (safe h)
   word_safe (Zeroize cell) i role wide good found n h = rw (word_kept image good found (not_first _ _ n h) marks _ s.cells) (safe h)
 
-  by_safe : (command : Command) (found : Lookup) → word_at image (cell_of command) ≡ found → Safe image (direct_by found image marks command s).after
+  by_safe : (command : Command) (found : Option Word) → word_at image (cell_of command) ≡ found → Safe image (direct_by found image marks command s).after
   unfolding carried_out
-  by_safe command Nothing e =
-      first_elim (λ (o : Outcome Answer State). Safe image o.after) (refusing Refused s) (direct_tests Nothing command image marks s) (carried_out Nothing command image marks s)
+  by_safe command None e =
+      first_elim (λ (o : Outcome (Result Answer Refusal) State). Safe image o.after) (refusing Err s) (direct_tests None command image marks s) (carried_out None command image marks s)
       (λ n _. safe) (λ none. safe)
-  by_safe command (Word i role wide) e =
-      first_elim (λ (o : Outcome Answer State). Safe image o.after) (refusing Refused s)
-      (direct_tests (Word i role wide) command image marks s) (carried_out (Word i role wide) command image marks s)
+  by_safe command (Some word) e =
+      first_elim (λ (o : Outcome (Result Answer Refusal) State). Safe image o.after) (refusing Err s)
+      (direct_tests (Some word) command image marks s) (carried_out (Some word) command image marks s)
       (λ n _. safe)
-      (λ none. let good : map_good image ≡ true = not-false _ (none 0) in word_safe command i role wide good (word_tells image good (cell_of command) i role wide (sym e)) (none 4))
+      (λ none. let good : map_good image ≡ true = not-false _ (none 0) in word_safe command word.partition word.role word.wide good (word_tells image good (cell_of command) word.partition word.role word.wide (sym e)) (none 4))
 
   direct_safe : (command : Command) → Safe image (after image marks (Direct command) s)
-  direct_safe command = subst (λ (o : Outcome Answer State). Safe image o.after) (sym (direct_at image marks command s refl)) (by_safe command (word_at image (cell_of command)) refl)
+  direct_safe command = subst (λ (o : Outcome (Result Answer Refusal) State). Safe image o.after) (sym (direct_at image marks command s refl)) (by_safe command (word_at image (cell_of command)) refl)
 
   -- nor does a run over a partition, cut or not
   run_safe : (i k mask : ℕ) → map_good image ≡ true → whole_arrays image s.cells marks ≡ true → i < (header_of image).partitions
@@ -130,7 +126,7 @@ module _ (image marks : List ℕ) (s : State) (safe : Safe image s) where
       (λ _. none_safe o.after) (λ _. erase_safe i k mask)
 
   -- of the mailbox's commands a load alone occupies a place, and it needs the HEK; FERS alone changes fuses
-  abbrev DoneSafe : Outcome Effect (List ℕ) → Type 0
+  abbrev DoneSafe : Outcome (Result Effect Refusal) (List ℕ) → Type 0
   DoneSafe d = Safe image (state_after d s)
 
   accepted_safe : (command : Command') (request : List ℕ) → map_good image ≡ true → whole_arrays image s.cells marks ≡ true → known command ≡ true
@@ -145,23 +141,23 @@ module _ (image marks : List ℕ) (s : State) (safe : Safe image s) where
   accepted_safe Fsta request good arrays k none = safe
   accepted_safe Ehdl request good arrays k none = safe
   accepted_safe Rhpk request good arrays k none =
-      let e = rotation_of (table_of s.context) request in λ h. safe (rw (rotated_cache e.rotates e.numbers.first s.context) at h)
+      let e = rotation_of (table_of s.context) request in λ h. safe (rw (rotated_cache e.rotates (get_or e.numbers 0 0) s.context) at h)
   accepted_safe Unknown request good arrays k none = absurd (false≢true k)
 
   mailbox_safe : (code : ℕ) (request response block : List ℕ) → Safe image (after image marks (Mailbox code request response block) s)
   mailbox_safe code request response block =
-      mailbox_elim image marks code request (length response) (length block) s DoneSafe (λ n _ _. safe) (accepted_safe (command_of code) request)
+      mailbox_elim image marks code request (length response) (length block) s DoneSafe (λ _ _. safe) (accepted_safe (command_of code) request)
 
   -- a reply occupies none
   reply_safe : (reply : EngineReply) → Safe image (after image marks (TakeReply reply) s)
   reply_safe reply =
-      reply_elim reply s.context (λ (o : Outcome ReplyAnswer (List ℕ)). Safe image (with_context o.after s))
+      reply_elim reply s.context (λ (o : Outcome (Result ⊤ Refusal) (List ℕ)). Safe image (with_context o.after s))
       (λ _. safe) (λ _ h. safe (settled_occupied (kind_after reply (cache_of s.context).awaited) s.context h))
 
   -- nor does a table that is made
   table_safe : (handles algorithms : List ℕ) → Safe image (after image marks (MakeTable handles algorithms) s)
   table_safe handles algorithms =
-      making_elim handles algorithms s.context (λ (o : Outcome TableAnswer (List ℕ)). Safe image (with_context o.after s))
+      making_elim handles algorithms s.context (λ (o : Outcome (Result ⊤ Refusal) (List ℕ)). Safe image (with_context o.after s))
       safe (λ _ h. safe (rw (made_cache handles algorithms s.context) at h))
 
 -- ---- every list of calls

@@ -1,9 +1,10 @@
 -- Request P5, the theorem of `Orders`: each call keeps what `Standing` says, so every list of calls does. Assumes nothing.
-use Rattle.std.specs.Prelude.{ℕ, ◌≤◌, ◌≡◌, true, false, cond, not, List, [], ◌∷◌, eqb, length}
+use Rattle.std.specs.Prelude.{ℕ, ◌≤◌, ◌≡◌, true, false, cond, not, List, [], ◌∷◌, eqb, length, get_or, Result, Ok, Err, ⊤}
 use Rattle.std.proofs.Common.{sym, ap, subst, ◌∙◌, ⊎_elim, arith, eq-eqb, ne_eqb}
 use Rattle.std.proofs.lemmas.Bool.{false≢true, not-false}
 use Rattle.laws.specs.Tests.{decided, cond_keeps}
-use Rattle.laws.specs.Refusals.{test_at}
+use Rattle.refusal.specs.Refusals.{test_at}
+use Rattle.refusal.specs.declared.Refusal.{Refusal}
 use Rattle.context.specs.State.{State, Outcome}
 use Rattle.map.specs.Map.{map_good}
 use Rattle.drive.specs.Drive.{whole_arrays}
@@ -13,14 +14,12 @@ use Rattle.cache.specs.declared.Sought.TheVariants.{Empty, Tag}
 use Rattle.cache.proofs.Laws.{has_tells}
 use Rattle.cache.specs.After.{Long}
 use Rattle.cache.proofs.After.{store_long, place_held, place_waiting, is_occupied}
-use Rattle.handles.specs.declared.Answer.{Answer as TableAnswer}
 use Rattle.handles.specs.Handles.{table_of}
 use Rattle.handles.specs.Making.{made}
 use Rattle.handles.specs.Laws.{making_elim}
 use Rattle.handles.specs.After.{rotated_keeps, made_keeps}
-use Rattle.erasure.specs.declared.Answer.{Answer}
-use Rattle.erasure.specs.declared.Answer.TheVariants.{Ended, Cut, Refused as NotErased}
-use Rattle.erasure.specs.Erasure.{never, erase_of, is_cut, uncut_of}
+use Rattle.erasure.specs.declared.Answer.TheVariants.{Ended, Cut}
+use Rattle.erasure.specs.Erasure.{Told as Erasure, never, erase_of, is_cut, uncut_of}
 use Rattle.engine.specs.declared.Order.TheVariants.{Nothing}
 use Rattle.engine.specs.declared.EngineReply.{EngineReply}
 use Rattle.engine.specs.declared.EngineReply.TheVariants.{Done}
@@ -29,11 +28,9 @@ use Rattle.codec.specs.declared.Command.TheVariants.{Clkc, Klod, Kunl, Fers, Fst
 use Rattle.codec.specs.Fields.{command_of, known, CmdTimeout, request_fields, number_at, tag_at}
 use Rattle.mailbox.specs.declared.effects.Effect.{Effect}
 use Rattle.mailbox.specs.declared.Reply.{Reply}
-use Rattle.mailbox.specs.declared.Reply.TheVariants.{Refused, Accepted}
 use Rattle.mailbox.proofs.Told.{mailbox_elim}
 use Rattle.mailbox.proofs.Handles.{rotated_cache}
-use Rattle.mailbox.specs.Mailbox.{refused, fers_of, rotation_of, partition_in, accepted, own_tests, context_after, reply_of}
-use Rattle.reply.specs.declared.Answer.{Answer as ReplyAnswer}
+use Rattle.mailbox.specs.Mailbox.{fers_of, rotation_of, partition_in, accepted, own_tests, context_after, reply_of}
 use Rattle.reply.specs.Laws.{reply_elim, reply_taken}
 use Rattle.history.specs.Calls.{Call, Direct, Erase, EraseCut, Mailbox, TakeReply, MakeTable, Restart, Taking, order_in, told, after, after_all}
 use Rattle.history.proofs.Kept.{direct_leaves, erase_leaves, made_cache}
@@ -47,19 +44,14 @@ module _ (image marks : List ℕ) (s : State) where
 
   module _ (orders : List Given) (sound : Sound orders s.context) where
     -- what a call of the mailbox orders and leaves
-    abbrev DoneSound : Outcome Effect (List ℕ) → Type 0
+    abbrev DoneSound : Outcome (Result Effect Refusal) (List ℕ) → Type 0
     DoneSound d = Sound (opened (order_in (reply_of d.told)) orders) (context_after d.told s.context)
 
-    -- a refusal orders nothing, whatever its number is
-    refused_sound : (n : ℕ) → Sound (opened (order_in (reply_of (refused n))) orders) s.context
-    refused_sound n =
-        cond_keeps (λ (r : Reply). Sound (opened (order_in r) orders) s.context) (eqb n 0) (Accepted _ Nothing) (Refused n) (λ _. sound) (λ _. sound)
-
-    -- nor does FERS
-    fers_sound : (answer : Answer) → Sound (opened (order_in (reply_of (fers_of answer))) orders) (context_after (fers_of answer) s.context)
-    fers_sound (Ended short first burns new) = sound
-    fers_sound (NotErased number burns) = refused_sound number
-    fers_sound (Cut burns new) = sound
+    -- FERS orders nothing
+    fers_sound : (answer : Erasure) → Sound (opened (order_in (reply_of (fers_of answer))) orders) (context_after (fers_of answer) s.context)
+    fers_sound (Ok (Ended short first burns new)) = sound
+    fers_sound (Err refused) = sound
+    fers_sound (Ok (Cut burns new)) = sound
 
     accepted_sound : (command : Code) (request : List ℕ) → map_good image ≡ true → whole_arrays image s.cells marks ≡ true → known command ≡ true
         → ((k : ℕ) → test_at (own_tests command image request s) k ≡ false) → DoneSound (accepted command image marks request s)
@@ -78,8 +70,8 @@ module _ (image marks : List ℕ) (s : State) where
     accepted_sound Ehdl request good arrays k none = sound
     accepted_sound Rhpk request good arrays k none =
         let e = rotation_of (table_of s.context) request in
-        sound_cache orders s.context (context_after e s.context) (rotated_cache e.rotates e.numbers.first s.context)
-        (rotated_keeps Long store_long s.context sound.long e.rotates e.numbers.first) sound
+        sound_cache orders s.context (context_after (Ok e) s.context) (rotated_cache e.rotates (get_or e.numbers 0 0) s.context)
+        (rotated_keeps Long store_long s.context sound.long e.rotates (get_or e.numbers 0 0)) sound
     accepted_sound Unknown request good arrays k none = absurd (false≢true k)
 
     -- so every call
@@ -97,12 +89,12 @@ module _ (image marks : List ℕ) (s : State) where
     reply_kept : (reply : EngineReply) → Kept (TakeReply reply)
     reply_kept reply =
         reply_elim reply s.context
-        (λ (o : Outcome ReplyAnswer (List ℕ)). Sound (cond (taken_told (Taking o.told)) (closed (Answered reply) orders) orders) o.after)
+        (λ (o : Outcome (Result ⊤ Refusal) (List ℕ)). Sound (cond (taken_told (Taking o.told)) (closed (Answered reply) orders) orders) o.after)
         (λ _. sound) (λ some. sound_reply reply orders s.context sound some)
 
     table_kept : (handles algorithms : List ℕ) → Kept (MakeTable handles algorithms)
     table_kept handles algorithms =
-        making_elim handles algorithms s.context (λ (o : Outcome TableAnswer (List ℕ)). Sound orders o.after) sound
+        making_elim handles algorithms s.context (λ (o : Outcome (Result ⊤ Refusal) (List ℕ)). Sound orders o.after) sound
         (λ _. sound_cache orders s.context (made handles algorithms s.context) (made_cache handles algorithms s.context)
         (made_keeps Long store_long s.context sound.long handles algorithms) sound)
 
@@ -111,7 +103,7 @@ module _ (image marks : List ℕ) (s : State) where
     call_kept (Erase i) = subst (Sound orders) (sym (erase_leaves image marks s i never 0)) sound
     call_kept (EraseCut i k mask) = cut_kept i k mask
     call_kept (Mailbox code request response block) =
-        mailbox_elim image marks code request (length response) (length block) s DoneSound (λ n _ _. refused_sound n) (accepted_sound (command_of code) request)
+        mailbox_elim image marks code request (length response) (length block) s DoneSound (λ _ _. sound) (accepted_sound (command_of code) request)
     call_kept (TakeReply reply) = reply_kept reply
     call_kept (MakeTable handles algorithms) = table_kept handles algorithms
     call_kept Restart = sound_emptied orders s.context
@@ -151,5 +143,5 @@ orderly image marks start e calls =
       tags_apart = λ j k l m o p. sound.apart j k l m (is_occupied (cache_of now.context) j o) (is_occupied (cache_of now.context) k p);
       clear_done = λ timeout before q.
           let done = clear_done now.context sound timeout before q in
-          subst (λ (o : Outcome ReplyAnswer (List ℕ)). AtRest (cache_of o.after)) (sym (reply_taken Done now.context done.0)) done.1;
+          subst (λ (o : Outcome (Result ⊤ Refusal) (List ℕ)). AtRest (cache_of o.after)) (sym (reply_taken Done now.context done.0)) done.1;
     }

@@ -15,8 +15,7 @@ use Rattle.burns.specs.Run.{Tally, tally_of, Ran, run}
 use Rattle.burns.specs.Cells.{full}
 use Rattle.burns.specs.Safe.{Alike, Safe}
 use Rattle.burns.proofs.Safe.{safe_start, safe_run, run_alike, run_full, run_cells, filled_kept}
-use Rattle.erasure.specs.declared.Answer.{Answer}
-use Rattle.erasure.specs.Erasure.{run_on, answer_by, ran_of}
+use Rattle.erasure.specs.Erasure.{Told as Erasure, run_on, answer_by, ran_of}
 use Rattle.erasure.proofs.Laws.{part_long}
 use Rattle.erasure.specs.Parts.{Outside}
 use Rattle.erasure.proofs.Parts.{run_part_lem, run_outside, run_length, same_array}
@@ -159,7 +158,7 @@ module _ (image marks : List ℕ) (i : ℕ) (start : State) where
             (filled_kept (part marks) (software (entry_of image i)) k mask (part s.cells) j (get_or (part cells) j 0) (h j l))
 
     -- an uncut attempt that is accepted has gone through its order, and fills them
-    went_through : (tell : Answer → Told) (t : Tally) → refusal (tell (answer_by Stopped image i t)) ≡ 15 → (end : End) → (end ≡ CutEnd → ⊥)
+    went_through : (tell : Erasure → Told) (t : Tally) → refusal (tell (answer_by Stopped image i t)) ≡ 15 → (end : End) → (end ≡ CutEnd → ⊥)
         → refusal (tell (answer_by end image i t)) ≡ 0 → end ≡ Whole
     went_through tell t st Whole u z = refl
     went_through tell t st Stopped u z = absurd (omega arith)
@@ -195,7 +194,7 @@ module _ (image marks : List ℕ) (i : ℕ) (start : State) where
               ap compared ((f begun begun_quiet alone.response alone.block alone.same).0 ∙ sym (as_lent image marks call s (f s r.quiet)).0)
           by (runs k mask tell ready unnumbered st c f) =
               ap compared (f begun begun_quiet alone.response alone.block alone.same).0 ∙ unnumbered _
-              ∙ ap (λ (x : Answer). compared (tell x)) (answers_same image i _ _ (same_run ready k mask s r (c s r.quiet u)))
+              ∙ ap (λ (x : Erasure). compared (tell x)) (answers_same image i _ _ (same_run ready k mask s r (c s r.quiet u)))
               ∙ sym (unnumbered _) ∙ ap compared (sym (as_lent image marks call s (f s r.quiet)).0)
 
       pub alone_cells : (refusal (told image marks call s) ≡ 0) ⊎ (refusal (told image marks call s) ≡ 15)

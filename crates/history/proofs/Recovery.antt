@@ -1,11 +1,12 @@
 -- Request P5: no sequence locks the block for good. From every state that calls, replies, cuts and restarts reach from an empty context, on
 -- a drive that 1 and 2 do not refuse, any reply, then CLKC, then done lead back to an empty cache. Assumes nothing.
 -- The definitions stand in specs/Recovery.antt.
-use Rattle.std.specs.Prelude.{ℕ, ◌≡◌, refl, true, false, not, List, []}
+use Rattle.std.specs.Prelude.{ℕ, ◌≡◌, refl, true, false, not, List, [], Result, Err, ⊤}
 use Rattle.std.proofs.Common.{sym, ap, subst, ◌∙◌, eq-eqb, arith}
 use Rattle.std.proofs.lemmas.Bool.{false≢true}
 use Rattle.laws.specs.Tests.{not_yes}
-use Rattle.laws.specs.Refusals.{past_all}
+use Rattle.refusal.specs.Refusals.{past_all}
+use Rattle.refusal.specs.declared.Refusal.{Refusal}
 use Rattle.context.specs.State.{State, Outcome, refusing}
 use Rattle.endian.specs.Endian.{u16_at, u32_at}
 use Rattle.map.specs.Map.{map_good}
@@ -21,8 +22,7 @@ use Rattle.codec.specs.declared.Command.TheVariants.{Clkc}
 use Rattle.codec.specs.Fields.{code_of}
 use Rattle.codec.specs.Request.{request_tests}
 use Rattle.mailbox.specs.declared.effects.Effect.{Effect}
-use Rattle.mailbox.specs.Mailbox.{refused, accepted, mailbox_tests, done_of, context_after}
-use Rattle.reply.specs.declared.Answer.{Answer as ReplyAnswer}
+use Rattle.mailbox.specs.Mailbox.{accepted, mailbox_tests, done_of, context_after}
 use Rattle.reply.specs.Reply.{kind_after, replied, taking_of}
 use Rattle.reply.specs.Laws.{reply_elim, reply_taken}
 use Rattle.history.specs.Calls.{Call, TakeReply, told, after, after_all}
@@ -40,8 +40,8 @@ clkc_clears : (image marks : List ℕ) (s : State) → map_good image ≡ true �
     → has_table (table_of s.context) ≡ true → busy (cache_of s.context) ≡ false → (after image marks clkc s).context ≡ clearing s.context
 unfolding done_of request_tests u32_at u16_at
 clkc_clears image marks s good arrays table still =
-    ap (λ (d : Outcome Effect (List ℕ)). context_after d.told s.context)
-    (sym (past_all (refusing refused s.cells) (accepted Clkc image marks request s) (mailbox_tests image marks (code_of Clkc) request room 128 s)
+    ap (λ (d : Outcome (Result Effect Refusal) (List ℕ)). context_after d.told s.context)
+    (sym (past_all (refusing Err s.cells) (accepted Clkc image marks request s) (mailbox_tests image marks (code_of Clkc) request room 128 s)
     (ap not good, (ap not arrays, (ap not table, (refl, (refl, (refl, (refl, (still, (refl, tt)))))))))))
 
 -- where none is awaited, no place waits
@@ -54,7 +54,7 @@ idle_still context (awaited order before e waits z) o = absurd (false≢true (sy
 reply_still : (image marks : List ℕ) (s : State) (orders : List Given) → Sound orders s.context → (reply : EngineReply)
     → busy (cache_of (after image marks (TakeReply reply) s).context) ≡ false
 reply_still image marks s orders sound reply =
-    reply_elim reply s.context (λ (o : Outcome ReplyAnswer (List ℕ)). busy (cache_of o.after) ≡ false)
+    reply_elim reply s.context (λ (o : Outcome (Result ⊤ Refusal) (List ℕ)). busy (cache_of o.after) ≡ false)
     (λ none. idle_still s.context sound.standing none)
     (λ some. idle_still (replied reply s.context) (sound_reply reply orders s.context sound some).standing
     (ap not (eq-eqb _ _ (none_awaited reply s.context sound.long))))
@@ -62,7 +62,7 @@ reply_still image marks s orders sound reply =
 -- and the table is as it was
 reply_table : (image marks : List ℕ) (s : State) (reply : EngineReply) → table_of (after image marks (TakeReply reply) s).context ≡ table_of s.context
 reply_table image marks s reply =
-    reply_elim reply s.context (λ (o : Outcome ReplyAnswer (List ℕ)). table_of o.after ≡ table_of s.context)
+    reply_elim reply s.context (λ (o : Outcome (Result ⊤ Refusal) (List ℕ)). table_of o.after ≡ table_of s.context)
     (λ _. refl) (λ _. settled_table (kind_after reply (cache_of s.context).awaited) s.context)
 
 -- ---- the theorem; that 1 and 2 do not refuse the drive, by request P6 that there is a table too, is asked of what is lent when the three

@@ -1,6 +1,6 @@
 -- Document 01, "Direct commands" and demand 2: what no answer shows, and when a key is loaded. Assumes nothing.
 -- The definitions stand in specs/Secrets.antt.
-use Rattle.std.specs.Prelude.{ℕ, ◌-◌, ◌≤◌, ◌≡◌, Bool}
+use Rattle.std.specs.Prelude.{ℕ, ◌-◌, ◌≤◌, ◌≡◌, Bool, Ok}
 use Rattle.std.proofs.Common.{◌∙◌, ⊎_elim, arith}
 use Rattle.std.proofs.Math.Bool.{true, false}
 use Rattle.std.proofs.lemmas.Bool.{false≢true}
@@ -20,7 +20,7 @@ use Rattle.history.specs.Secrets.{shows, shown_word, zeros_of}
 
 -- a pair of a secret partition that is shown has few zeros as it stands, and on the older guide, which shows all ones, none
 pub shown_least : (x : Entry) (wide : Bool) (bound word new : ℕ) → secret x ≡ true → wide ≡ true → (answer : Answer) → answer ≡ answer_of (Zeroize 0) x wide bound word new
-    → shows answer ≡ true → zeros_of (shown_word answer) ≤ 64 - bound
+    → shows (Ok answer) ≡ true → zeros_of (shown_word (Ok answer)) ≤ 64 - bound
 shown_least x wide bound word new s w answer e y =
     ⊎_elim
     (λ (t : short bound word ≡ true). let q : answer ≡ Withheld = e ∙ rw (s, t) in absurd (false≢true (rw q at y)))

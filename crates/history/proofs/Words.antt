@@ -13,22 +13,21 @@ use Rattle.burns.specs.declared.Word.{Word}
 use Rattle.burns.specs.Run.{pair_from, order}
 use Rattle.burns.proofs.Turns.{first_word, cell_word, pair_word, count_cells, count_pairs}
 use Rattle.word.specs.declared.Role.TheVariants.{Data, Digest}
-use Rattle.word.specs.declared.Lookup.TheVariants.{Word as Found}
-use Rattle.word.specs.Word.{word_by, word_in, word_at}
+use Rattle.word.specs.Word.{word_by, word_in, word_at, some_word}
 use Rattle.word.specs.Laws.{holds_at, word_of}
 use Rattle.history.specs.Words.{role_of}
 
 -- ---- the word that starts a cells past the partition's first
 
 -- of single cells, and of pairs: the digest, or data
-cell_at : (i cell a n : ℕ) → 4 ≤ n → a ≤ n - 4 → word_by true 4 (n - a) i cell ≡ Found i (cond (eqb a (n - 4)) Digest Data) (eqb a (n - 4))
+cell_at : (i cell a n : ℕ) → 4 ≤ n → a ≤ n - 4 → word_by true 4 (n - a) i cell ≡ some_word i (cond (eqb a (n - 4)) Digest Data) (eqb a (n - 4))
 cell_at i cell a n four l =
     ⊎_elim
     (λ (e : a ≡ n - 4). simp (le-ltb 4 (n - a) (omega arith), eq-eqb (n - a) 4 (omega arith), eq-eqb _ _ e))
     (λ (m : a < n - 4). simp (lt-ltb 4 (n - a) (omega arith), ne_eqb a (n - 4) (λ e. omega arith)))
     (eq-or-lt_of_le l)
 
-pair_at : (i cell a n : ℕ) → 4 ≤ n → a ≤ n - 4 → cell % 2 ≡ 0 → word_by false 4 (n - a) i cell ≡ Found i (cond (eqb a (n - 4)) Digest Data) true
+pair_at : (i cell a n : ℕ) → 4 ≤ n → a ≤ n - 4 → cell % 2 ≡ 0 → word_by false 4 (n - a) i cell ≡ some_word i (cond (eqb a (n - 4)) Digest Data) true
 pair_at i cell a n four l even =
     ⊎_elim
     (λ (e : a ≡ n - 4). simp (le-ltb 4 (n - a) (omega arith), eq-eqb (n - a) 4 (omega arith), eq-eqb _ _ e))
@@ -51,7 +50,7 @@ module _ (image : List ℕ) (good : map_good image ≡ true) (i : ℕ) (l : i < 
 
   -- what burn j goes to is what the map has there
   abbrev Known : (j : ℕ) → Word → Type 0
-  Known j w = word_at image (x.first + w.at) ≡ Found i (role_of (length words) j) w.wide
+  Known j w = word_at image (x.first + w.at) ≡ some_word i (role_of (length words) j) w.wide
 
   first_known : (j : ℕ) → j ≡ 0 → Known j (get_or words j (pair_from 0))
   first_known j e =

@@ -1,27 +1,21 @@
 -- The calls of all entry points, what each tells its caller, and what it leaves for the next one, by the definitions that the entry
 -- points' contracts equal. Assumes nothing.
-use Rattle.std.specs.Prelude.{ℕ, Bool, List, [], ◌∷◌, take}
+use Rattle.std.specs.Prelude.{ℕ, Bool, List, [], ◌∷◌, take, Result, Ok, Err, ⊤}
+use Rattle.refusal.specs.declared.Refusal.{Refusal}
+use Rattle.refusal.specs.Numbers.{number}
 use Rattle.context.specs.State.{State, Outcome, outcome, telling, on_context}
 use Rattle.cache.specs.Cache.{cache_of, has_place}
 use Rattle.cache.specs.declared.Sought.TheVariants.{Occupied}
-use Rattle.handles.specs.declared.Answer.{Answer as TableAnswer}
-use Rattle.handles.specs.declared.Answer.TheVariants.{Made, Refused as NotMade}
 use Rattle.handles.specs.Making.{making_of}
 use Rattle.direct.specs.declared.Command.{Command}
 use Rattle.direct.specs.declared.Answer.{Answer}
-use Rattle.direct.specs.declared.Answer.TheVariants.{Word, Burned, Done, Withheld, Refused as RefusedDirect}
 use Rattle.direct.specs.Direct.{direct_of}
-use Rattle.erasure.specs.declared.Answer.{Answer as Erasure}
-use Rattle.erasure.specs.declared.Answer.TheVariants.{Ended, Cut, Refused as RefusedErasure}
-use Rattle.erasure.specs.Erasure.{erasure_of, cut_erasure_of, restarted}
+use Rattle.erasure.specs.Erasure.{Told as Erasure, erasure_of, cut_erasure_of, restarted}
 use Rattle.mailbox.specs.declared.Reply.{Reply}
-use Rattle.mailbox.specs.declared.Reply.TheVariants.{Refused, Accepted}
 use Rattle.mailbox.specs.Mailbox.{Lent, lent, mailbox_of}
 use Rattle.engine.specs.declared.Order.{Order}
 use Rattle.engine.specs.declared.Order.TheVariants.{Nothing}
 use Rattle.engine.specs.declared.EngineReply.{EngineReply}
-use Rattle.reply.specs.declared.Answer.{Answer as ReplyAnswer}
-use Rattle.reply.specs.declared.Answer.TheVariants.{Taken, Refused as NotTaken}
 use Rattle.reply.specs.Reply.{taking_of}
 
 -- a place is not empty in a state
@@ -41,25 +35,25 @@ pub data Call : Type 0 where
 -- what it tells: a direct command's answer, an erasure's, the mailbox's reply with the bytes of the response, what came of the engine's
 -- reply or of a table, or nothing
 pub data Told : Type 0 where
-  Answering : Answer → Told
+  Answering : Result Answer Refusal → Told
   Erasing : Erasure → Told
-  Replying : Reply → (response : List ℕ) → Told
-  Taking : ReplyAnswer → Told
-  Making : TableAnswer → Told
+  Replying : Result Reply Refusal → (response : List ℕ) → Told
+  Taking : Result ⊤ Refusal → Told
+  Making : Result ⊤ Refusal → Told
   Silent : Told
 
 -- the bytes of a response
-abbrev pub length_in : Reply → ℕ
-length_in (Refused number) = 0
-length_in (Accepted length order) = length
+abbrev pub length_in : Result Reply Refusal → ℕ
+length_in (Ok reply) = reply.length
+length_in (Err r) = 0
 
 -- the order that a reply gives the engine
-abbrev pub order_in : Reply → Order
-order_in (Refused number) = Nothing
-order_in (Accepted length order) = order
+abbrev pub order_in : Result Reply Refusal → Order
+order_in (Ok reply) = reply.order
+order_in (Err r) = Nothing
 
 -- a call of the mailbox tells its reply and its response, which is no longer than the reply says
-abbrev pub replying : Outcome Reply Lent → Outcome Told State
+abbrev pub replying : Outcome (Result Reply Refusal) Lent → Outcome Told State
 replying o = outcome (Replying o.told (take (length_in o.told) o.after.response)) o.after.state
 
 -- what a call tells and leaves
@@ -81,20 +75,16 @@ after image marks call s = (outcome_of image marks call s).after
 
 -- the refusal's number, 0 where the call was not refused
 abbrev pub refusal : Told → ℕ
-refusal (Answering (Word word)) = 0
-refusal (Answering (Burned word new)) = 0
-refusal (Answering Done) = 0
-refusal (Answering Withheld) = 0
-refusal (Answering (RefusedDirect number)) = number
-refusal (Erasing (Ended short first burns new)) = 0
-refusal (Erasing (Cut burns new)) = 0
-refusal (Erasing (RefusedErasure number burns)) = number
-refusal (Replying (Refused number) response) = number
-refusal (Replying (Accepted length order) response) = 0
-refusal (Taking Taken) = 0
-refusal (Taking (NotTaken number)) = number
-refusal (Making Made) = 0
-refusal (Making (NotMade number)) = number
+refusal (Answering (Ok answer)) = 0
+refusal (Answering (Err r)) = number r
+refusal (Erasing (Ok answer)) = 0
+refusal (Erasing (Err refused)) = number refused.refusal
+refusal (Replying (Ok reply) response) = 0
+refusal (Replying (Err r) response) = number r
+refusal (Taking (Ok done)) = 0
+refusal (Taking (Err r)) = number r
+refusal (Making (Ok done)) = 0
+refusal (Making (Err r)) = number r
 refusal Silent = 0
 
 -- "each call gets the cells and cache that the one before left, refused or not"

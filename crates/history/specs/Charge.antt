@@ -2,41 +2,40 @@
 -- list of calls of every entry point, demand 3's histories of attempts and restarts among them. Cells and marks are any
 -- numbers. Assumes nothing.
 -- The theorems stand in proofs/Charge.antt.
-use Rattle.std.specs.Prelude.{ℕ, ◌+◌, ◌≡◌, Bool, false, cond, List, [], ◌∷◌, eqb, length}
+use Rattle.std.specs.Prelude.{ℕ, ◌+◌, ◌≡◌, Bool, false, cond, List, [], ◌∷◌, eqb, length, Option, Some, None, Result, Ok, Err}
 use Rattle.std.proofs.Math.Bool.{true}
-use Rattle.laws.specs.Refusals.{first_of}
+use Rattle.refusal.specs.Refusals.{first_of}
+use Rattle.refusal.specs.declared.Refusal.{Refusal}
 use Rattle.context.specs.State.{State}
 use Rattle.fuse.specs.Fuse.{set_fuses}
-use Rattle.word.specs.declared.Lookup.{Lookup}
-use Rattle.word.specs.declared.Lookup.TheVariants.{Word, Nothing as NoWord}
+use Rattle.word.specs.declared.Word.{Word}
 use Rattle.word.specs.Word.{word_at}
 use Rattle.direct.specs.declared.Command.{Command}
 use Rattle.direct.specs.declared.Command.TheVariants.{Read, Write, Zeroize}
 use Rattle.direct.specs.declared.Answer.{Answer}
-use Rattle.direct.specs.declared.Answer.TheVariants.{Word as Shown, Burned, Done, Withheld, Refused as RefusedDirect}
+use Rattle.direct.specs.declared.Answer.TheVariants.{Word as Shown, Burned, Done, Withheld}
 use Rattle.direct.specs.Direct.{cell_of, direct_tests, new_after}
 use Rattle.erasure.specs.Erasure.{told_new, erasure_of, cut_erasure_of}
 use Rattle.codec.specs.declared.Command.TheVariants.{Fers}
 use Rattle.codec.specs.Fields.{code_of, NewFuses, response_fields, no_numbers, number_at}
 use Rattle.mailbox.specs.declared.Reply.{Reply}
-use Rattle.mailbox.specs.declared.Reply.TheVariants.{Refused, Accepted}
 use Rattle.mailbox.specs.Mailbox.{lent, mailbox_of}
 use Rattle.history.specs.Calls.{Call, Direct, Erase, EraseCut, Mailbox, TakeReply, MakeTable, Restart, after, after_all}
 
 -- ---- the claim
 
 -- FERS "carries it as a last field", which a host reads by the field list; a refusal has no response, and no other command burns
-abbrev pub report_in : (code : ℕ) → Reply → (response : List ℕ) → ℕ
-report_in code (Refused number) response = 0
-report_in code (Accepted length order) response = cond (eqb code (code_of Fers)) (number_at (response_fields Fers no_numbers) NewFuses response) 0
+abbrev pub report_in : (code : ℕ) → Result Reply Refusal → (response : List ℕ) → ℕ
+report_in code (Err r) response = 0
+report_in code (Ok reply) response = cond (eqb code (code_of Fers)) (number_at (response_fields Fers no_numbers) NewFuses response) 0
 
 -- what WRITE and ZEROIZE report or, in a secret partition, where they do not show it, would: the fuses that their burn newly sets, 0 where
 -- they are refused; READ sets none
-abbrev pub new_by : Lookup → Command → (marks cells : List ℕ) → ℕ
-new_by NoWord command marks cells = 0
-new_by (Word i role wide) command marks cells = new_after command wide marks cells
+abbrev pub new_by : Option Word → Command → (marks cells : List ℕ) → ℕ
+new_by None command marks cells = 0
+new_by (Some word) command marks cells = new_after command word.wide marks cells
 
-abbrev pub report_by : Lookup → (image marks : List ℕ) → Command → State → ℕ
+abbrev pub report_by : Option Word → (image marks : List ℕ) → Command → State → ℕ
 report_by found image marks command s = first_of (λ _. 0) (direct_tests found command image marks s) (new_by found command marks s.cells)
 
 -- what a call reports: an erasure in its answer, cut ones included, FERS in its response; a restart, a reply and a table have nothing to report
@@ -65,12 +64,12 @@ Charge =
 -- ---- what a direct command shows of it
 
 -- the number beside a word, 0 where there is none
-abbrev pub new_in : Answer → ℕ
-new_in (Shown word) = 0
-new_in (Burned word new) = new
-new_in Done = 0
-new_in Withheld = 0
-new_in (RefusedDirect number) = 0
+abbrev pub new_in : Result Answer Refusal → ℕ
+new_in (Ok (Shown word)) = 0
+new_in (Ok (Burned word new)) = new
+new_in (Ok Done) = 0
+new_in (Ok Withheld) = 0
+new_in (Err r) = 0
 
 -- a command that burns its word
 abbrev pub burns_word : Command → Bool

@@ -1,6 +1,6 @@
 -- Demand 3, whole: a single claim about every list of attempts on a partition and restarts. Here is what an attempt, a history and the
 -- claim are; the theorem `demand_3` is in `Demand3Proof`. Assumes nothing.
-use Rattle.std.specs.Prelude.{ℕ, ◌+◌, ◌≤◌, ◌<◌, ◌≡◌, ◌⊎◌, true, false, cond, List, [], ◌∷◌, map, length, get_or}
+use Rattle.std.specs.Prelude.{ℕ, ◌+◌, ◌≤◌, ◌<◌, ◌≡◌, ◌⊎◌, true, false, cond, List, [], ◌∷◌, map, length, get_or, Ok, Err}
 use Rattle.std.specs.Int.Bits.{bit_or}
 use Rattle.laws.specs.Bits.{◌⊆◌}
 use Rattle.context.specs.State.{State, with_cells, with_context}
@@ -10,8 +10,8 @@ use Rattle.burns.specs.Run.{order}
 use Rattle.drive.specs.Drive.{whole_arrays, marked_at}
 use Rattle.cache.specs.Cache.{cache_of, AtRest}
 use Rattle.handles.specs.Handles.{table_of}
-use Rattle.erasure.specs.declared.Answer.{Answer as Erasure}
-use Rattle.erasure.specs.declared.Answer.TheVariants.{Ended, Cut, Refused as RefusedErasure}
+use Rattle.erasure.specs.declared.Answer.TheVariants.{Ended, Cut}
+use Rattle.erasure.specs.Erasure.{Told as Erasure}
 use Rattle.erasure.specs.Parts.{Outside}
 use Rattle.codec.specs.declared.Command.TheVariants.{Fers}
 use Rattle.codec.specs.Fields.{code_of, Field, Chksum, NewFuses, same, response_fields, no_numbers, bytes_at, joined}
@@ -104,9 +104,9 @@ start_alone start a = with_context a.context start
 
 -- of an erasure's answer all but the fuses newly set
 abbrev pub numberless : Erasure → Erasure
-numberless (Ended short first burns new) = Ended short first burns 0
-numberless (Cut burns new) = Cut burns 0
-numberless (RefusedErasure number burns) = RefusedErasure number burns
+numberless (Ok (Ended short first burns new)) = Ok (Ended short first burns 0)
+numberless (Ok (Cut burns new)) = Ok (Cut burns 0)
+numberless (Err refused) = Err refused
 
 -- the fields but one
 abbrev pub without : Field → List Field → List Field

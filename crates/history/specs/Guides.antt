@@ -1,22 +1,23 @@
 -- Request P7: "only the answered word depends on the flag". Here is the claim of two maps that differ in flag 8 alone: of every call of the
 -- entry points that are lent something to change, over every list of them, and of the states; the theorem is in `GuidesProof`. Assumes nothing.
-use Rattle.std.specs.Prelude.{ℕ, ◌≡◌, Bool, true, false, List}
+use Rattle.std.specs.Prelude.{ℕ, ◌≡◌, Bool, true, false, List, Result, Ok, Err}
+use Rattle.refusal.specs.declared.Refusal.{Refusal}
 use Rattle.context.specs.State.{State}
 use Rattle.direct.specs.declared.Command.TheVariants.{Read, Write, Zeroize}
 use Rattle.direct.specs.declared.Answer.{Answer}
-use Rattle.direct.specs.declared.Answer.TheVariants.{Word as Shown, Burned, Done, Withheld, Refused}
+use Rattle.direct.specs.declared.Answer.TheVariants.{Word as Shown, Burned, Done, Withheld}
 use Rattle.direct.specs.Direct.{direct_of}
 use Rattle.drive.specs.Drive.{survey_at, active_slot}
 use Rattle.mailbox.specs.Mailbox.{Lent, mailbox_of}
 use Rattle.history.specs.Calls.{Call, Direct, Erase, EraseCut, Mailbox, TakeReply, MakeTable, Restart, told, after, after_all}
 
 -- an answer with its word left out; the fuses newly set stay (request P8)
-abbrev pub wordless : Answer → Answer
-wordless (Shown word) = Shown 0
-wordless (Burned word new) = Burned 0 new
-wordless Done = Done
-wordless Withheld = Withheld
-wordless (Refused number) = Refused number
+abbrev pub wordless : Result Answer Refusal → Result Answer Refusal
+wordless (Ok (Shown word)) = Ok (Shown 0)
+wordless (Ok (Burned word new)) = Ok (Burned 0 new)
+wordless (Ok Done) = Ok Done
+wordless (Ok Withheld) = Ok Withheld
+wordless (Err r) = Err r
 
 -- a call is a ZEROIZE
 abbrev pub zeroizes : Call → Bool

@@ -1,13 +1,13 @@
 -- Request P6: "prove that from it, while only our calls change the table, no number is given twice", over every list of calls of every entry
 -- point, replies, cuts and restarts. Here is which numbers are given and the claim; the theorem is in `HandlesProof`. Assumes nothing.
-use Rattle.std.specs.Prelude.{ℕ, ◌<◌, ◌≡◌, true, cond, List, [], ◌∷◌, ◌++◌, eqb}
+use Rattle.std.specs.Prelude.{ℕ, ◌<◌, ◌≡◌, true, cond, List, [], ◌∷◌, ◌++◌, eqb, Result, Ok, Err}
+use Rattle.refusal.specs.declared.Refusal.{Refusal}
 use Rattle.context.specs.State.{State}
 use Rattle.handles.specs.Handles.{table_of, handle_at, handles_in}
 use Rattle.handles.specs.Making.{is_among, distinct, Fresh}
 use Rattle.codec.specs.declared.Command.TheVariants.{Rhpk}
 use Rattle.codec.specs.Fields.{code_of, HpkeHandle, response_fields, number_at, no_numbers}
 use Rattle.mailbox.specs.declared.Reply.{Reply}
-use Rattle.mailbox.specs.declared.Reply.TheVariants.{Refused, Accepted}
 use Rattle.history.specs.Calls.{Call, Direct, Erase, EraseCut, Mailbox, TakeReply, MakeTable, Restart, Told, Answering, Erasing, Replying, Taking, Making, Silent}
 use Rattle.history.specs.Calls.{told, after, after_all}
 
@@ -16,9 +16,9 @@ abbrev pub number_told : (response : List ℕ) → ℕ
 number_told response = number_at (response_fields Rhpk no_numbers) HpkeHandle response
 
 -- the number that a call gives, in a list: an accepted RHPK gives the one that its response tells, no other call gives any
-abbrev pub given_in : Reply → (response : List ℕ) → List ℕ
-given_in (Refused number) response = []
-given_in (Accepted length order) response = number_told response ∷ []
+abbrev pub given_in : Result Reply Refusal → (response : List ℕ) → List ℕ
+given_in (Err r) response = []
+given_in (Ok reply) response = number_told response ∷ []
 
 abbrev pub given_told : Told → List ℕ
 given_told (Answering answer) = []

@@ -1,7 +1,7 @@
 -- Request P5, over every list of calls, replies, cuts and restarts from an empty context: the orders that were given, what became of them,
 -- and what then holds of the places. The theorem is in `OrdersProof`; that places are not empty only while the HEK is available is in
 -- `HeldKeys`, and that no state locks the block is in `Recovery`. Assumes nothing.
-use Rattle.std.specs.Prelude.{ℕ, ◌+◌, ◌≤◌, ◌<◌, ◌≡◌, ◌↔◌, Bool, true, false, cond, ◌&&◌, List, [], ◌∷◌, map, eqb}
+use Rattle.std.specs.Prelude.{ℕ, ◌+◌, ◌≤◌, ◌<◌, ◌≡◌, ◌↔◌, Bool, true, false, cond, ◌&&◌, List, [], ◌∷◌, map, eqb, Ok, Err}
 use Rattle.laws.specs.Below.{tally}
 use Rattle.context.specs.State.{State}
 use Rattle.cache.specs.Cache.{cache_of, places, tag_in, is_at, place_at, awaits, AtRest}
@@ -14,7 +14,6 @@ use Rattle.engine.specs.declared.EngineReply.{EngineReply}
 use Rattle.engine.specs.declared.EngineReply.TheVariants.{Done, TimedOut, Failed}
 use Rattle.erasure.specs.Erasure.{is_cut}
 use Rattle.mailbox.specs.Mailbox.{loads}
-use Rattle.reply.specs.declared.Answer.TheVariants.{Taken, Refused}
 use Rattle.history.specs.Calls.{Call, Direct, Erase, EraseCut, Mailbox, TakeReply, MakeTable, Restart, Told, Answering, Erasing, Replying, Taking, Making, Silent}
 use Rattle.history.specs.Calls.{order_in, told, after}
 
@@ -62,8 +61,8 @@ abbrev pub taken_told : Told → Bool
 taken_told (Answering answer) = false
 taken_told (Erasing answer) = false
 taken_told (Replying reply response) = false
-taken_told (Taking Taken) = true
-taken_told (Taking (Refused number)) = false
+taken_told (Taking (Ok done)) = true
+taken_told (Taking (Err r)) = false
 taken_told (Making answer) = false
 taken_told Silent = false
 

@@ -1,9 +1,10 @@
 -- Document 01, "The small drive": cases 1 to 9 in a single table, and case 10, by computation from the definitions that the entry points'
 -- contracts equal. Assumes nothing.
-use Rattle.std.specs.Prelude.{ℕ, zero, suc, ◌-◌, ◌^◌, ◌≡◌, refl, Bool, true, false, List, [], ◌∷◌, ◌++◌, map, get_or, replicate, set}
+use Rattle.std.specs.Prelude.{ℕ, zero, suc, ◌-◌, ◌^◌, ◌≡◌, refl, Bool, true, false, List, [], ◌∷◌, ◌++◌, map, get_or, replicate, set, Ok, Err}
 use Rattle.std.specs.Int.Count.{ones_in}
 use Rattle.laws.specs.Tests.{every}
 use Rattle.laws.specs.Below.{all_below, count_below, first_from}
+use Rattle.refusal.specs.declared.Refusal.TheVariants.{NotThere, NotAllowed, TagHeld, NoEmptyPlace, NotMarked}
 use Rattle.endian.specs.Endian.{u16_at, u32_at, bytes4}
 use Rattle.map.specs.Map.{header_good, filler_good, entry_good, place_good, map_good}
 use Rattle.map.specs.Image.{image}
@@ -20,12 +21,11 @@ use Rattle.drive.specs.Drive.{whole_arrays, survey_at, slot_at, open_slot, activ
 use Rattle.engine.specs.declared.Order.TheVariants.{Nothing, Clear, Load}
 use Rattle.engine.specs.declared.EngineReply.TheVariants.{Done}
 use Rattle.engine.specs.Engine.{zeros}
-use Rattle.erasure.specs.declared.Answer.TheVariants.{Ended, Cut, Refused as RefusedErasure}
+use Rattle.erasure.specs.declared.Answer.TheVariants.{Ended, Cut}
 use Rattle.erasure.specs.Erasure.{run_on, erase_of}
 use Rattle.codec.specs.declared.Command.TheVariants.{Clkc, Klod, Kunl, Fers, Fsta}
 use Rattle.codec.specs.Fields.{code_of}
 use Rattle.codec.specs.Request.{request_tests}
-use Rattle.mailbox.specs.declared.Reply.TheVariants.{Refused, Accepted}
 use Rattle.mailbox.specs.Mailbox.{done_of}
 use Rattle.reply.specs.Reply.{taking_of}
 use Rattle.history.specs.Demand3.{compared}
@@ -98,7 +98,7 @@ abbrev response : (chksum one two : ℕ) → List ℕ
 response chksum one two = bytes4 chksum ++ bytes4 0 ++ bytes4 0 ++ bytes4 one ++ bytes4 two
 
 abbrev erased : (chksum short first new : ℕ) → Told
-erased chksum short first new = Replying (Accepted 24 Nothing) (response chksum short first ++ bytes4 new)
+erased chksum short first new = Replying (Ok (record { length = 24; order = Nothing })) (response chksum short first ++ bytes4 new)
 
 abbrev row : Told → (cells : List ℕ) (ones : ℕ) → PartitionState → (short : ℕ) → Bool → Seen
 row tells cells ones state short hek = record { tells = tells; cells = cells; ones = ones; state = state; short = short; hek = hek }
@@ -107,32 +107,32 @@ row tells cells ones state short hek = record { tells = tells; cells = cells; on
 cases : List (Seen × Seen)
 cases =
     -- 1: active 0, available 1
-    (seen no_marks [] fsta, row (Replying (Accepted 20 Nothing) (response 0xFFFF_FFFF 0 1)) (slot_cells 1 0 0 0 0 0) 1 Programmed 3 true)
+    (seen no_marks [] fsta, row (Replying (Ok (record { length = 20; order = Nothing })) (response 0xFFFF_FFFF 0 1)) (slot_cells 1 0 0 0 0 0) 1 Programmed 3 true)
     -- 2, by request P8 "Case 2's response gains 191"; and the same erasure by a library call, which tells its burns
     ∷ (seen no_marks [] (fers 0xFFFF_FED0 0), row (erased 0xFFFF_FB45 0 all 191) (slot_cells all all all all all all) 64 Erased 0 false)
-    ∷ (seen no_marks [] (Erase 0), row (Erasing (Ended 0 all 3 191)) (slot_cells all all all all all all) 64 Erased 0 false)
+    ∷ (seen no_marks [] (Erase 0), row (Erasing (Ok (Ended 0 all 3 191))) (slot_cells all all all all all all) 64 Erased 0 false)
     -- 3: 60 ones of word 0
     ∷ (seen (stuck 1 0x0F) [] (fers 0xFFFF_FED0 0), row (erased 0xFFFF_FB49 0 all 187) (slot_cells all 0xFFFF_FFF0 all all all all) 60 Erased 0 false)
     -- 4: 59 ones
     ∷ (seen (stuck 1 0x1F) [] (fers 0xFFFF_FED0 0), row (erased 0xFFFF_FF45 1 0 186) (slot_cells all 0xFFFF_FFE0 all all all all) 59 Torn 1 false)
     -- 5, by request P4: erased, 1 short, the indicator; and the same by a library call
     ∷ (seen (stuck 5 0x1F) [] (fers 0xFFFF_FED0 0), row (erased 0xFFFF_FF41 1 4 186) (slot_cells all all all all all 0xFFFF_FFE0) 64 Erased 1 false)
-    ∷ (seen (stuck 5 0x1F) [] (Erase 0), row (Erasing (Ended 1 4 3 186)) (slot_cells all all all all all 0xFFFF_FFE0) 64 Erased 1 false)
+    ∷ (seen (stuck 5 0x1F) [] (Erase 0), row (Erasing (Ok (Ended 1 4 3 186))) (slot_cells all all all all all 0xFFFF_FFE0) 64 Erased 1 false)
     -- 6, by request P4: cut at the indicator, 59 bits of it, and 60
-    ∷ (seen no_marks [] (EraseCut 0 0 (low 59)), row (Erasing (Cut 1 59)) (slot_cells 1 0 0 0 all 0x07FF_FFFF) 1 Torn 3 false)
-    ∷ (seen no_marks [] (EraseCut 0 0 (low 60)), row (Erasing (Cut 1 60)) (slot_cells 1 0 0 0 all 0x0FFF_FFFF) 1 Torn 2 false)
+    ∷ (seen no_marks [] (EraseCut 0 0 (low 59)), row (Erasing (Ok (Cut 1 59))) (slot_cells 1 0 0 0 all 0x07FF_FFFF) 1 Torn 3 false)
+    ∷ (seen no_marks [] (EraseCut 0 0 (low 60)), row (Erasing (Ok (Cut 1 60))) (slot_cells 1 0 0 0 all 0x0FFF_FFFF) 1 Torn 2 false)
     -- 7: cut at the first data word, and FERS again, as case 2, but "Case 7's last gains 96"
-    ∷ (seen no_marks [] (EraseCut 0 1 0xFFFF_FFFF), row (Erasing (Cut 2 95)) (slot_cells all 0 0 0 all all) 32 Torn 2 false)
+    ∷ (seen no_marks [] (EraseCut 0 1 0xFFFF_FFFF), row (Erasing (Ok (Cut 2 95))) (slot_cells all 0 0 0 all all) 32 Torn 2 false)
     ∷ (
       seen no_marks (EraseCut 0 1 0xFFFF_FFFF ∷ []) (fers 0xFFFF_FED0 0),
       row (erased 0xFFFF_FBA4 0 all 96)
           (slot_cells all all all all all all) 64 Erased 0 false,
     )
     -- 8: partition 1, and 2
-    ∷ (seen no_marks [] (fers 0xFFFF_FECF 1), row (Replying (Refused 8) []) (slot_cells 1 0 0 0 0 0) 1 Programmed 3 true)
-    ∷ (seen no_marks [] (fers 0xFFFF_FECE 2), row (Replying (Refused 7) []) (slot_cells 1 0 0 0 0 0) 1 Programmed 3 true)
+    ∷ (seen no_marks [] (fers 0xFFFF_FECF 1), row (Replying (Err NotAllowed) []) (slot_cells 1 0 0 0 0 0) 1 Programmed 3 true)
+    ∷ (seen no_marks [] (fers 0xFFFF_FECE 2), row (Replying (Err NotThere) []) (slot_cells 1 0 0 0 0 0) 1 Programmed 3 true)
     -- 9
-    ∷ (seen no_marks [] clkc, row (Replying (Accepted 12 (Clear 1000)) (zeros 12)) (slot_cells 1 0 0 0 0 0) 1 Programmed 3 true)
+    ∷ (seen no_marks [] clkc, row (Replying (Ok (record { length = 12; order = (Clear 1000) })) (zeros 12)) (slot_cells 1 0 0 0 0 0) 1 Programmed 3 true)
     ∷ []
 
 -- every call shows what the document says
@@ -146,11 +146,11 @@ table = refl
 -- four and the last four; and every reply
 compares :
     map compared
-    (Erasing (Ended 1 2 3 4) ∷ Erasing (Cut 1 2) ∷ Erasing (RefusedErasure 15 1)
-    ∷ Replying (Accepted 24 (Clear 7)) (0 ∷ 1 ∷ 2 ∷ 3 ∷ 4 ∷ 5 ∷ 6 ∷ 7 ∷ 8 ∷ 9 ∷ 10 ∷ 11 ∷ 12 ∷ 13 ∷ 14 ∷ 15 ∷ 16 ∷ 17 ∷ 18 ∷ 19 ∷ 20 ∷ 21 ∷ 22 ∷ 23 ∷ [])
-    ∷ Replying (Refused 8) [] ∷ [])
-    ≡ Erasing (Ended 1 2 3 0) ∷ Erasing (Cut 1 0) ∷ Erasing (RefusedErasure 15 1)
-    ∷ Replying (Accepted 24 (Clear 7)) (4 ∷ 5 ∷ 6 ∷ 7 ∷ 8 ∷ 9 ∷ 10 ∷ 11 ∷ 12 ∷ 13 ∷ 14 ∷ 15 ∷ 16 ∷ 17 ∷ 18 ∷ 19 ∷ []) ∷ Replying (Refused 8) [] ∷ []
+    (Erasing (Ok (Ended 1 2 3 4)) ∷ Erasing (Ok (Cut 1 2)) ∷ Erasing (Err (record { refusal = NotMarked; burns = 1 }))
+    ∷ Replying (Ok (record { length = 24; order = (Clear 7) })) (0 ∷ 1 ∷ 2 ∷ 3 ∷ 4 ∷ 5 ∷ 6 ∷ 7 ∷ 8 ∷ 9 ∷ 10 ∷ 11 ∷ 12 ∷ 13 ∷ 14 ∷ 15 ∷ 16 ∷ 17 ∷ 18 ∷ 19 ∷ 20 ∷ 21 ∷ 22 ∷ 23 ∷ [])
+    ∷ Replying (Err NotAllowed) [] ∷ [])
+    ≡ Erasing (Ok (Ended 1 2 3 0)) ∷ Erasing (Ok (Cut 1 0)) ∷ Erasing (Err (record { refusal = NotMarked; burns = 1 }))
+    ∷ Replying (Ok (record { length = 24; order = (Clear 7) })) (4 ∷ 5 ∷ 6 ∷ 7 ∷ 8 ∷ 9 ∷ 10 ∷ 11 ∷ 12 ∷ 13 ∷ 14 ∷ 15 ∷ 16 ∷ 17 ∷ 18 ∷ 19 ∷ []) ∷ Replying (Err NotAllowed) [] ∷ []
 compares = refl
 
 -- ---- case 10, where by request P5 each order is answered done
@@ -172,12 +172,12 @@ abbrev tells : (before : List Call) (tag : ℕ) → Told
 tells before tag = told small no_marks (load tag) (after_all small no_marks before start)
 
 abbrev took : (chksum place : ℕ) → Told
-took chksum place = Replying (Accepted 16 (Load place 0)) (bytes4 chksum ++ bytes4 0 ++ bytes4 0 ++ bytes4 place)
+took chksum place = Replying (Ok (record { length = 16; order = (Load place 0) })) (bytes4 chksum ++ bytes4 0 ++ bytes4 0 ++ bytes4 place)
 
 -- "Sixteen loads fill places 0 to 15, the seventeenth new tag is 13, a held tag 12; unload place 3's tag, and the next load gets place 3"
 case_10 :
     tells [] 1 ∷ tells (loads 15) 16 ∷ tells (loads 16) 17 ∷ tells (loads 16) 4 ∷ tells (loads 16 ++ (unload 4 ∷ TakeReply Done ∷ [])) 17 ∷ []
-    ≡ took 0 0 ∷ took 0xFFFF_FFF1 15 ∷ Replying (Refused 13) [] ∷ Replying (Refused 12) [] ∷ took 0xFFFF_FFFD 3 ∷ []
+    ≡ took 0 0 ∷ took 0xFFFF_FFF1 15 ∷ Replying (Err NoEmptyPlace) [] ∷ Replying (Err TagHeld) [] ∷ took 0xFFFF_FFFD 3 ∷ []
 unfolding done_of request_tests map_good whole_arrays every header_good filler_good entry_good place_good all_below u16_at u32_at active_slot open_slot slot_at survey_at
     state_of marked short_at zero_cell count_below first_from ones_in cache_of table_of is_at placed turned_below taking_of
 case_10 = refl

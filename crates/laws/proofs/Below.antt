@@ -1,15 +1,15 @@
 -- What is said of the numbers below n: that a test f holds at all of them, at how many it holds, which is the lowest; and the lists
 -- that f gives for them, one after the other. Every loop here is one of these four, and cites its laws. Assumes nothing.
 -- The definitions stand in specs/Below.antt.
-use Rattle.std.specs.Prelude.{ℕ, zero, suc, ◌+◌, ◌-◌, ◌≤◌, ◌<◌, ◌≡◌, refl, List, [], ◌∷◌, ◌++◌, Bool, true, false, cond, ◌&&◌, length, drop, set, get_or, ltb}
-use Rattle.std.proofs.Common.{sym, ◌∙◌, ⊎_elim, arith, not-suc-le-zero, eq-or-lt_of_le, le_of_suc-le-suc, length-append, drop-cons, ltb-true, ltb-false}
+use Rattle.std.specs.Prelude.{ℕ, zero, suc, ◌+◌, ◌-◌, ◌≤◌, ◌<◌, ◌≡◌, refl, List, [], ◌∷◌, ◌++◌, Bool, true, false, cond, ◌&&◌, length, drop, set, get_or, ltb, Option, Some, None, MatchOption, unwrap_or}
+use Rattle.std.proofs.Common.{sym, ◌∙◌, ⊎_elim, arith, not-suc-le-zero, eq-or-lt_of_le, le_of_suc-le-suc, length-append, drop-cons, lt-ltb, ltb-true, ltb-false}
 use Rattle.std.proofs.lemmas.Bool.{false≢true}
 use Rattle.std.proofs.Math.Numerals.{add-one}
 use Rattle.std.proofs.Math.Nat.{sub-zero}
 use Rattle.std.proofs.lemmas.List.{set_at}
 use Rattle.std.proofs.Math.Seq.{append_snoc}
 use Rattle.laws.specs.Tests.{and, decided, not_yes, not_first}
-use Rattle.laws.specs.Below.{all_below, tally, count_below, first_from, first_below, join_below, First}
+use Rattle.laws.specs.Below.{all_below, tally, count_below, first_from, first_below, found, join_below, First}
 
 -- ---- all
 
@@ -159,6 +159,25 @@ same_from f g i (suc m) e = rw (e i (omega arith), same_from f g (suc i) m (λ k
 
 pub first_same : (f g : ℕ → Bool) (n : ℕ) → ((k : ℕ) → k < n → f k ≡ g k) → first_below f n ≡ first_below g n
 first_same f g n h = same_from f g 0 n (λ k l. h k (omega arith))
+
+-- a search over the numbers below n, as code gives its answer: the lowest, or none
+pub search_found : (f : ℕ → Bool) (n : ℕ) (r : Option ℕ)
+    → MatchOption r ((k : ℕ) → 0 ≤ k → k < n → f k ≡ false) (λ i. (0 ≤ i) × (i < n) × (f i ≡ true) × ((k : ℕ) → 0 ≤ k → k < i → f k ≡ false))
+    → r ≡ found n (first_below f n)
+search_found f n None h =
+    let w = first_tells f 0 n in
+    let past : ltb (first_below f n) n ≡ false = not_yes _ (λ l. let a = ltb-true _ _ l in false≢true (sym (h _ (omega arith) a) ∙ w.at (omega arith))) in
+    rw past refl
+search_found f n (Some i) h =
+    rw (first_is f n i h.1 h.2 (λ k l. h.3 k (omega arith) l), lt-ltb i n h.1) refl
+
+-- and the number where it stands for none, past them all
+pub found_or : (f : ℕ → Bool) (n : ℕ) → unwrap_or (found n (first_below f n)) n ≡ first_below f n
+found_or f n =
+    ⊎_elim
+    (λ (y : ltb (first_below f n) n ≡ true). rw y refl)
+    (λ (o : ltb (first_below f n) n ≡ false). rw o (let w = first_tells f 0 n in let l = ltb-false _ _ o in omega arith))
+    (decided (ltb (first_below f n) n))
 
 -- ---- one after the other
 

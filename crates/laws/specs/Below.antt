@@ -1,7 +1,7 @@
 -- What is said of the numbers below n: that a test f holds at all of them, at how many it holds, which is the lowest; and the lists
 -- that f gives for them, one after the other. Every loop here is one of these four, and cites its laws. Assumes nothing.
 -- The theorems stand in proofs/Below.antt.
-use Rattle.std.specs.Prelude.{ℕ, zero, suc, ◌+◌, ◌≤◌, ◌<◌, ◌≡◌, List, [], ◌++◌, Bool, true, false, cond, ◌&&◌}
+use Rattle.std.specs.Prelude.{ℕ, zero, suc, ◌+◌, ◌≤◌, ◌<◌, ◌≡◌, List, [], ◌++◌, Bool, true, false, cond, ◌&&◌, ltb, Option, Some, None}
 
 -- f holds at each number below n
 unfoldable pub all_below : (ℕ → Bool) → ℕ → Bool
@@ -26,6 +26,10 @@ first_from f i (suc m) = cond (f i) i (first_from f (suc i) m)
 -- the lowest number below n at which f holds, n where there is none
 abbrev pub first_below : (ℕ → Bool) → ℕ → ℕ
 first_below f n = first_from f 0 n
+
+-- a search's answer as code gives it: k where it is below n, none where nothing was found below n
+abbrev pub found : (n k : ℕ) → Option ℕ
+found n k = cond (ltb k n) (Some k) None
 
 -- the lists f 0 to f (n - 1), one after the other
 unfoldable pub join_below : (ℕ → List ℕ) → ℕ → List ℕ

@@ -2,4 +2,3 @@ pub mod Tests
 pub mod Below
 pub mod Bits
 pub mod Put
-pub mod Refusals

@@ -1,10 +1,12 @@
 -- Request P6: what EHDL and RHPK tell and leave, in any table, also one that is not fresh. Assumes nothing.
 -- The definitions stand in specs/Handles.antt.
-use Rattle.std.specs.Prelude.{ℕ, zero, suc, ◌+◌, ◌*◌, ◌≤◌, ◌<◌, ◌≡◌, refl, true, false, not, List, eqb, ltb, length, get_or}
+use Rattle.std.specs.Prelude.{ℕ, zero, suc, ◌+◌, ◌*◌, ◌≤◌, ◌<◌, ◌≡◌, refl, true, false, not, List, eqb, ltb, length, get_or, Result, Ok, Err}
 use Rattle.std.proofs.Common.{sym, ap, subst, ◌∙◌, ⊎_elim, arith, ne_eqb}
 use Rattle.std.proofs.lemmas.Bool.{not-false}
 use Rattle.laws.specs.Tests.{decided, either}
-use Rattle.laws.specs.Refusals.{refused_at}
+use Rattle.refusal.specs.Refusals.{refused_at}
+use Rattle.refusal.specs.declared.Refusal.{Refusal}
+use Rattle.refusal.specs.declared.Refusal.TheVariants.{BadLent}
 use Rattle.context.specs.State.{Outcome, refusing}
 use Rattle.map.specs.Map.{map_good}
 use Rattle.drive.specs.Drive.{whole_arrays}
@@ -15,26 +17,21 @@ use Rattle.handles.specs.Laws.{good_most, next_fits, Lowest, lowest_tells}
 use Rattle.handles.specs.After.{rotated_keeps, rotated_count, rotated_greatest, rotated_handle, rotated_algorithm, rotated_other}
 use Rattle.engine.specs.declared.Order.{Order}
 use Rattle.engine.specs.declared.Order.TheVariants.{Nothing}
-use Rattle.codec.specs.declared.Numbers.{Numbers}
 use Rattle.codec.specs.declared.Command.TheVariants.{Ehdl, Rhpk}
 use Rattle.codec.specs.Fields.{Field, HpkeHandleCount, Handle0, HpkeAlgorithm0, Handle1, HpkeAlgorithm1, Handle2, HpkeAlgorithm2, HpkeHandle}
-use Rattle.codec.specs.Fields.{code_of, command_of, response_fields, number_at, no_numbers, one_number, least_room}
+use Rattle.codec.specs.Fields.{Numbers, code_of, command_of, response_fields, number_at, no_numbers, one_number, least_room}
 use Rattle.codec.proofs.Laws.{response_reads, list_bytes}
 use Rattle.mailbox.specs.declared.effects.Effect.{Effect}
 use Rattle.mailbox.specs.declared.Reply.{Reply}
-use Rattle.mailbox.specs.declared.Reply.TheVariants.{Refused, Accepted}
-use Rattle.mailbox.specs.Mailbox.{effect, refused, table_numbers, list_of, handle_in, accepted, lent_bad, mailbox_tests, done_of, reply_of, response_after}
+use Rattle.mailbox.specs.Mailbox.{effect, table_numbers, list_of, handle_in, accepted, lent_bad, mailbox_tests, done_of, reply_of, response_after}
 use Rattle.mailbox.specs.Mailbox.{Lent, lent, written_out, mailbox_of}
 use Rattle.mailbox.proofs.Laws.{lent_table}
 use Rattle.mailbox.proofs.Told.{lent_elim, mailbox_elim, refused_not}
 use Rattle.mailbox.specs.Handles.{handle_field, algorithm_field, Lists}
 
--- an accepted call tells one order and one length
-same_order : {n m : ℕ} {order order' : Order} → Accepted n order ≡ Accepted m order' → order ≡ order'
-same_order e = cc
-
-same_length : {n m : ℕ} {order order' : Order} → Accepted n order ≡ Accepted m order' → n ≡ m
-same_length e = cc
+-- an accepted call tells one reply
+same_reply : {reply reply' : Reply} → ◌≡◌ {A = Result Reply Refusal} (Ok reply) (Ok reply') → reply ≡ reply'
+same_reply e = cc
 
 -- a rotation leaves the cache
 pub rotated_cache : (k number : ℕ) (context : List ℕ) → cache_of (rotated_at k number context) ≡ cache_of context
@@ -44,12 +41,12 @@ rotated_cache k number context =
 -- ---- without a table, as in a context of zeros, every call that passes 1 is refused 2
 
 pub no_table : (image marks : List ℕ) (code : ℕ) (request : List ℕ) (l : Lent) → map_good image ≡ true → has_table (table_of l.state.context) ≡ false
-    → (mailbox_of image marks code request l).told ≡ Refused 2
+    → (mailbox_of image marks code request l).told ≡ Err BadLent
 unfolding done_of
 no_table image marks code request l good none =
     let tests = mailbox_tests image marks code request (length l.response) (length l.block) l.state in
-    let at = refused_at (refusing refused l.state.cells) (accepted (command_of code) image marks request l.state) in
-    let tells = ap (λ (d : Outcome Effect (List ℕ)). reply_of d.told) in
+    let at = refused_at (refusing Err l.state.cells) (accepted (command_of code) image marks request l.state) in
+    let tells = ap (λ (d : Outcome (Result Effect Refusal) (List ℕ)). reply_of d.told) in
     ⊎_elim
     (λ (y : whole_arrays image l.state.cells marks ≡ true). sym (tells (at 2 tests (ap not good, (ap not y, tt)) (lent_none (length l.response) (length l.block) none))))
     (λ (o : whole_arrays image l.state.cells marks ≡ false). sym (tells (at 1 tests (ap not good, tt) (ap not o))))
@@ -66,7 +63,7 @@ numbers_by t count = table_numbers (record { count = count; entries = t.entries;
 
 abbrev Reads : Table → (count : ℕ) → Field → (value : ℕ) (response : List ℕ) → Type 0
 Reads t count field value response =
-    number_at (response_fields Ehdl (numbers_by t count)) field (response_after (effect Ehdl Nothing 0 (numbers_by t count)) response) ≡ value
+    number_at (response_fields Ehdl (numbers_by t count)) field (response_after (Ok (effect Ehdl Nothing 0 (numbers_by t count))) response) ≡ value
 
 module _ (t : Table) (response : List ℕ) where
   entry_reads : (count k : ℕ) → count ≤ 3 → k < count → Reads t count (handle_field k) (handle_at t k) response × Reads t count (algorithm_field k) (algorithm_at t k) response
@@ -82,7 +79,7 @@ module _ (t : Table) (response : List ℕ) where
   entry_reads (suc (suc (suc zero))) (suc (suc (suc k))) l m = absurd (omega arith)
   entry_reads (suc (suc (suc (suc count)))) k l m = absurd (omega arith)
 
-  pub list_reads : has_table t ≡ true → Lists t (response_after (list_of t) response)
+  pub list_reads : has_table t ≡ true → Lists t (response_after (Ok (list_of t)) response)
   list_reads h =
       let l = good_most t.count h in
       record {
@@ -96,29 +93,29 @@ module _ (image marks request : List ℕ) (l : Lent) where
   abbrev t : Table
   t = table_of l.state.context
 
-  pub record Listed (o : Outcome Reply Lent) (n : ℕ) (order : Order) : Type 0 where
+  pub record Listed (o : Outcome (Result Reply Refusal) Lent) (reply : Reply) : Type 0 where
     -- "24, 32 or 40 bytes"
-    pub bytes : n ≡ 16 + 8 * t.count
+    pub bytes : reply.length ≡ 16 + 8 * t.count
     pub lists : Lists t o.after.response
-    pub no_order : order ≡ Nothing
+    pub no_order : reply.order ≡ Nothing
     pub state_same : o.after.state ≡ l.state
     pub block_same : o.after.block ≡ l.block
 
-  abbrev ListedBy : Outcome Effect (List ℕ) → Type 0
-  ListedBy d = (n : ℕ) (order : Order) → (written_out request l d).told ≡ Accepted n order → Listed (written_out request l d) n order
+  abbrev ListedBy : Outcome (Result Effect Refusal) (List ℕ) → Type 0
+  ListedBy d = (reply : Reply) → (written_out request l d).told ≡ Ok reply → Listed (written_out request l d) reply
 
-  pub list_tells : let o = mailbox_of image marks (code_of Ehdl) request l in (n : ℕ) (order : Order) → o.told ≡ Accepted n order → Listed o n order
+  pub list_tells : let o = mailbox_of image marks (code_of Ehdl) request l in (reply : Reply) → o.told ≡ Ok reply → Listed o reply
   list_tells =
       let room = length l.response in
       let long = length l.block in
       lent_elim image marks (code_of Ehdl) request room long l.state ListedBy
-      (λ n o _ m order e. refused_not (rw (ne_eqb n 0 o) at e))
-      (λ good _ _ _ none n order e.
+      (λ r _ reply e. refused_not e)
+      (λ good _ _ _ none reply e.
       let table = lent_table room long l.state.context good in
       record {
-        bytes = sym (same_length e) ∙ list_bytes (table_numbers t) (good_most t.count table);
+        bytes = ap (λ (r : Reply). r.length) (sym (same_reply e)) ∙ list_bytes (table_numbers t) (good_most t.count table);
         lists = list_reads t l.response table;
-        no_order = same_order (sym e);
+        no_order = ap (λ (r : Reply). r.order) (sym (same_reply e));
         state_same = refl;
         block_same = refl;
       })
@@ -134,8 +131,8 @@ module _ (image marks request : List ℕ) (l : Lent) where
 
   -- what an accepted one changes, in a context that has the words of a table, as every lent one has (`Long`): the handle at the lowest
   -- place with it, and the greatest; and nothing else
-  pub record Rotated (o : Outcome Reply Lent) (n : ℕ) (order : Order) : Type 0 where
-    pub bytes : n ≡ 16
+  pub record Rotated (o : Outcome (Result Reply Refusal) Lent) (reply : Reply) : Type 0 where
+    pub bytes : reply.length ≡ 16
     pub lowest : Lowest before (handle_in request) place
     pub told_number : number_at (response_fields Rhpk no_numbers) HpkeHandle o.after.response ≡ before.greatest + 1
     pub new_handle : handle_at (table_of o.after.state.context) place ≡ before.greatest + 1
@@ -145,24 +142,24 @@ module _ (image marks request : List ℕ) (l : Lent) where
     pub new_greatest : (table_of o.after.state.context).greatest ≡ before.greatest + 1
     pub cache_same : cache_of o.after.state.context ≡ cache_of l.state.context
     pub cells_same : o.after.state.cells ≡ l.state.cells
-    pub no_order : order ≡ Nothing
+    pub no_order : reply.order ≡ Nothing
     pub block_same : o.after.block ≡ l.block
 
-  abbrev RotatedBy : Outcome Effect (List ℕ) → Type 0
-  RotatedBy d = (n : ℕ) (order : Order) → (written_out request l d).told ≡ Accepted n order → Rotated (written_out request l d) n order
+  abbrev RotatedBy : Outcome (Result Effect Refusal) (List ℕ) → Type 0
+  RotatedBy d = (reply : Reply) → (written_out request l d).told ≡ Ok reply → Rotated (written_out request l d) reply
 
   pub rotation_changes : Long l.state.context → let o = mailbox_of image marks (code_of Rhpk) request l in
-      (n : ℕ) (order : Order) → o.told ≡ Accepted n order → Rotated o n order
+      (reply : Reply) → o.told ≡ Ok reply → Rotated o reply
   rotation_changes long =
       let context = l.state.context in
       let next = next_number before in
       mailbox_elim image marks (code_of Rhpk) request (length l.response) (length l.block) l.state RotatedBy
-      (λ n o _ m order e. refused_not (rw (ne_eqb n 0 o) at e))
-      (λ _ _ _ none n order e.
+      (λ r _ reply e. refused_not e)
+      (λ _ _ _ none reply e.
       let found = lowest_tells before (handle_in request) (not-false _ (none 2)) in
       let fits = next_fits before (none 3) in
       record {
-        bytes = sym (same_length e);
+        bytes = ap (λ (r : Reply). r.length) (sym (same_reply e));
         lowest = found;
         told_number = response_reads Rhpk (one_number next) _ HpkeHandle refl;
         new_handle = rotated_handle place next context long found.within fits;
@@ -172,7 +169,7 @@ module _ (image marks request : List ℕ) (l : Lent) where
         new_greatest = rotated_greatest place next context long found.within;
         cache_same = rotated_cache place next context;
         cells_same = refl;
-        no_order = same_order (sym e);
+        no_order = ap (λ (r : Reply). r.order) (sym (same_reply e));
         block_same = refl;
       })
 
@@ -183,14 +180,14 @@ pub told_again : (image marks request request' : List ℕ) (l : Lent) (response 
     let o' = mailbox_of image marks (code_of Ehdl) request' (lent o.after.state response block) in
     let t = table_of o.after.state.context in
     let place = lowest_with (table_of l.state.context) (handle_in request) in
-    (n n' : ℕ) (order order' : Order) → o.told ≡ Accepted n order → o'.told ≡ Accepted n' order'
+    (reply reply' : Reply) → o.told ≡ Ok reply → o'.told ≡ Ok reply'
     → (number_at (response_fields Ehdl (table_numbers t)) (handle_field place) o'.after.response
     ≡ number_at (response_fields Rhpk no_numbers) HpkeHandle o.after.response)
     × (number_at (response_fields Ehdl (table_numbers t)) (algorithm_field place) o'.after.response ≡ algorithm_at (table_of l.state.context) place)
-told_again image marks request request' l response block long n n' order order' e e' =
+told_again image marks request request' l response block long reply reply' e e' =
     let o = mailbox_of image marks (code_of Rhpk) request l in
-    let r = rotation_changes image marks request l long n order e in
+    let r = rotation_changes image marks request l long reply e in
     let place = lowest_with (table_of l.state.context) (handle_in request) in
-    let lists = (list_tells image marks request' (lent o.after.state response block) n' order' e').lists in
+    let lists = (list_tells image marks request' (lent o.after.state response block) reply' e').lists in
     let counted = subst (λ (count : ℕ). place < count) (sym r.count_same) r.lowest.counted in
     (lists.handle_reads place counted ∙ r.new_handle ∙ sym r.told_number, lists.algorithm_reads place counted ∙ r.same_algorithm)

@@ -2,7 +2,7 @@
 -- nothing.
 -- The theorems stand in proofs/Judging.antt.
 use Rattle.std.specs.Prelude.{ℕ, ◌≡◌, refl, true, List}
-use Rattle.laws.specs.Refusals.{lacks}
+use Rattle.refusal.specs.Refusals.{lacks}
 use Rattle.context.specs.State.{State}
 use Rattle.codec.specs.declared.Command.{Command}
 use Rattle.codec.specs.declared.Command.TheVariants.{Clkc, Klod, Kunl, Fers, Fsta, Ehdl, Rhpk, Unknown}

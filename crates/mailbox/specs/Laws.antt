@@ -2,7 +2,8 @@
 -- The theorems stand in proofs/Laws.antt.
 use Rattle.std.specs.Prelude.{ℕ, ◌≤◌, ◌≡◌, Bool, true, List}
 use Rattle.std.proofs.Math.ListN.{length}
-use Rattle.laws.specs.Refusals.{lacks, ascend_from}
+use Rattle.refusal.specs.Refusals.{lacks, ascend_from}
+use Rattle.refusal.specs.declared.Refusal.{Refusal}
 use Rattle.engine.specs.declared.Order.{Order}
 use Rattle.codec.specs.Fields.{request_fields, length_of, command_of, least_room}
 use Rattle.mailbox.specs.Mailbox.{Fits}
@@ -10,7 +11,7 @@ use Rattle.mailbox.specs.Mailbox.{Fits}
 -- ---- what an accepted call tells
 
 -- the numbers of a call's tests never fall, none is 0, and none is 15
-pub record Numbered (tests : List (Bool × ℕ)) : Type 0 where
+pub record Numbered (tests : List (Bool × Refusal)) : Type 0 where
   pub ascend : ascend_from 1 tests ≡ true
   pub not_0 : lacks 0 tests ≡ true
   pub not_15 : lacks 15 tests ≡ true

@@ -1,19 +1,19 @@
 -- Document 01, "Mailbox" and "Refusal numbers", and requests P5, P6 and P8: what a call does, and what it leaves. Assumes nothing.
-use Rattle.std.specs.Prelude.{ℕ, ◌≡◌, Bool, true, false, cond, not, ◌&&◌, ◌||◌, List, [], ◌∷◌, ◌++◌, eqb, ltb, length}
-use Rattle.laws.specs.Refusals.{first_of}
+use Rattle.std.specs.Prelude.{ℕ, ◌≡◌, Bool, true, false, cond, not, ◌&&◌, ◌||◌, List, [], ◌∷◌, ◌++◌, eqb, ltb, length, get_or, Result, Ok, Err}
+use Rattle.refusal.specs.Refusals.{first_of}
+use Rattle.refusal.specs.declared.Refusal.{Refusal}
+use Rattle.refusal.specs.declared.Refusal.TheVariants.{BadLent, UnknownCode, HekNotAvailable, TagHeld, NoEmptyPlace, TagNotHeld, NotMarked, EngineBusy, PlaceUnsure, NoSuchHandle, NumbersUsedUp}
 use Rattle.context.specs.State.{State, with_cells, with_context, Outcome, outcome, refusing, telling}
 use Rattle.drive.specs.Drive.{Whole, drive_tests, active_slot, slot_number, available}
 use Rattle.drive.specs.declared.ActiveSlot.{ActiveSlot}
 use Rattle.cache.specs.Cache.{cache_of, lowest_place, has_place, busy, load_reply, unload_reply, waiting_at, clearing}
 use Rattle.cache.specs.declared.Sought.TheVariants.{Empty, Unsure, Tag}
 use Rattle.handles.specs.Handles.{Table, table_of, most, has_table, handle_at, algorithm_at, lowest_with, has_handle, used_up, next_number, rotated_at}
-use Rattle.erasure.specs.declared.Answer.{Answer}
-use Rattle.erasure.specs.declared.Answer.TheVariants.{Ended, Cut, Refused as NotErased}
-use Rattle.erasure.specs.Erasure.{partition_tests, Erasable, uncut_of}
-use Rattle.codec.specs.declared.Numbers.{Numbers}
+use Rattle.erasure.specs.declared.Answer.TheVariants.{Ended, Cut}
+use Rattle.erasure.specs.Erasure.{Told, partition_tests, Erasable, uncut_of}
 use Rattle.codec.specs.declared.Command.{Command}
 use Rattle.codec.specs.declared.Command.TheVariants.{Clkc, Klod, Kunl, Fers, Fsta, Ehdl, Rhpk, Unknown}
-use Rattle.codec.specs.Fields.{command_of, CmdTimeout, Partition, HpkeHandle, request_fields, response_fields, length_of, number_at, tag_at, mek_at}
+use Rattle.codec.specs.Fields.{Numbers, command_of, CmdTimeout, Partition, HpkeHandle, request_fields, response_fields, length_of, number_at, tag_at, mek_at}
 use Rattle.codec.specs.Fields.{no_numbers, one_number, two_numbers, three_numbers, response_in, least_room}
 use Rattle.codec.specs.Request.{request_tests}
 use Rattle.engine.specs.Engine.{engine_block}
@@ -21,7 +21,6 @@ use Rattle.engine.specs.declared.Order.{Order}
 use Rattle.engine.specs.declared.Order.TheVariants.{Nothing, Clear, Load, Unload}
 use Rattle.mailbox.specs.declared.effects.Effect.{Effect}
 use Rattle.mailbox.specs.declared.Reply.{Reply}
-use Rattle.mailbox.specs.declared.Reply.TheVariants.{Refused, Accepted}
 
 -- ---- the effect of a command: what the engine is ordered, with the tag, the place of the table whose handle is replaced, and the numbers
 -- of the response
@@ -31,11 +30,7 @@ abbrev pub no_place : ℕ
 no_place = most
 
 abbrev pub effect : Command → Order → (tag : ℕ) → Numbers → Effect
-effect command order tag numbers = record { refusal = 0; command = command; order = order; tag = tag; rotates = no_place; numbers = numbers }
-
--- "the engine order is none"
-abbrev pub refused : (number : ℕ) → Effect
-refused number = record { refusal = number; command = Unknown; order = Nothing; tag = 0; rotates = no_place; numbers = no_numbers }
+effect command order tag numbers = record { command = command; order = order; tag = tag; rotates = no_place; numbers = numbers }
 
 -- CLKC: "clear" with the timeout
 abbrev pub clear_of : (request : List ℕ) → Effect
@@ -55,10 +50,10 @@ unload_of context request =
 
 -- FERS, by what its erasure answers: "short pairs, first short cell" and, by request P8, the fuses newly set "as a last field"; or refusal 15.
 -- It is not cut: no order reaches its cut
-abbrev pub fers_of : Answer → Effect
-fers_of (Ended short first burns new) = effect Fers Nothing 0 (three_numbers short first new)
-fers_of (NotErased number burns) = refused number
-fers_of (Cut burns new) = refused 15
+abbrev pub fers_of : Told → Result Effect Refusal
+fers_of (Ok (Ended short first burns new)) = Ok (effect Fers Nothing 0 (three_numbers short first new))
+fers_of (Err refused) = Err refused.refusal
+fers_of (Ok (Cut burns new)) = Err NotMarked
 
 -- "HEK available 1 or 0"
 abbrev pub hek_number : ActiveSlot → ℕ
@@ -70,15 +65,7 @@ status_of slot = effect Fsta Nothing 0 (two_numbers (slot_number slot) (hek_numb
 
 -- EHDL: "count, then handle and algorithm for each"
 abbrev pub table_numbers : Table → Numbers
-table_numbers t = record {
-  first = t.count;
-  second = handle_at t 0;
-  third = algorithm_at t 0;
-  fourth = handle_at t 1;
-  fifth = algorithm_at t 1;
-  sixth = handle_at t 2;
-  seventh = algorithm_at t 2;
-}
+table_numbers t = t.count ∷ handle_at t 0 ∷ algorithm_at t 0 ∷ handle_at t 1 ∷ algorithm_at t 1 ∷ handle_at t 2 ∷ algorithm_at t 2 ∷ []
 
 abbrev pub list_of : Table → Effect
 list_of t = effect Ehdl Nothing 0 (table_numbers t)
@@ -90,41 +77,41 @@ handle_in request = number_at (request_fields Rhpk) HpkeHandle request
 -- RHPK: "the lowest place with the handle is meant"; its response is "the new handle"
 abbrev pub rotation_of : Table → (request : List ℕ) → Effect
 rotation_of t request =
-    record { refusal = 0; command = Rhpk; order = Nothing; tag = 0; rotates = lowest_with t (handle_in request); numbers = one_number (next_number t) }
+    record { command = Rhpk; order = Nothing; tag = 0; rotates = lowest_with t (handle_in request); numbers = one_number (next_number t) }
 
 -- the partition that a request of FERS names
 abbrev pub partition_in : (request : List ℕ) → ℕ
 partition_in request = number_at (request_fields Fers) Partition request
 
 -- where no refusal of the lists below applies: the effect, and the cells, which FERS alone burns; a code that is unknown is refused before
-abbrev pub accepted : Command → (image marks request : List ℕ) → State → Outcome Effect (List ℕ)
-accepted Clkc image marks request s = outcome (clear_of request) s.cells
-accepted Klod image marks request s = outcome (load_of s.context request) s.cells
-accepted Kunl image marks request s = outcome (unload_of s.context request) s.cells
+abbrev pub accepted : Command → (image marks request : List ℕ) → State → Outcome (Result Effect Refusal) (List ℕ)
+accepted Clkc image marks request s = outcome (Ok (clear_of request)) s.cells
+accepted Klod image marks request s = outcome (Ok (load_of s.context request)) s.cells
+accepted Kunl image marks request s = outcome (Ok (unload_of s.context request)) s.cells
 accepted Fers image marks request s = telling fers_of (uncut_of image s.cells marks (partition_in request))
-accepted Fsta image marks request s = outcome (status_of (active_slot image s.cells)) s.cells
-accepted Ehdl image marks request s = outcome (list_of (table_of s.context)) s.cells
-accepted Rhpk image marks request s = outcome (rotation_of (table_of s.context) request) s.cells
-accepted Unknown image marks request s = refusing refused s.cells 3
+accepted Fsta image marks request s = outcome (Ok (status_of (active_slot image s.cells))) s.cells
+accepted Ehdl image marks request s = outcome (Ok (list_of (table_of s.context))) s.cells
+accepted Rhpk image marks request s = outcome (Ok (rotation_of (table_of s.context) request)) s.cells
+accepted Unknown image marks request s = refusing Err s.cells UnknownCode
 
 -- ---- refusals
 
 -- 11 "KLOD, HEK not available", 12 "KLOD, tag held already", 13 "KLOD, no empty place"
-abbrev pub load_tests : (image request : List ℕ) → State → List (Bool × ℕ)
+abbrev pub load_tests : (image request : List ℕ) → State → List (Bool × Refusal)
 load_tests image request s =
-    (not (available (active_slot image s.cells)), 11)
-    ∷ (has_place (cache_of s.context) (Tag (tag_at (request_fields Klod) request)), 12)
-    ∷ (not (has_place (cache_of s.context) Empty), 13)
+    (not (available (active_slot image s.cells)), HekNotAvailable)
+    ∷ (has_place (cache_of s.context) (Tag (tag_at (request_fields Klod) request)), TagHeld)
+    ∷ (not (has_place (cache_of s.context) Empty), NoEmptyPlace)
     ∷ []
 
 -- 14 "KUNL, tag not held"; "KUNL finds a waiting or unsure tag but is refused on it" (`unload_held`), by 17 or 18 below
-abbrev pub unload_tests : (context request : List ℕ) → List (Bool × ℕ)
+abbrev pub unload_tests : (context request : List ℕ) → List (Bool × Refusal)
 unload_tests context request =
-    (not (has_place (cache_of context) (Tag (tag_at (request_fields Kunl) request))), 14)
+    (not (has_place (cache_of context) (Tag (tag_at (request_fields Kunl) request))), TagNotHeld)
     ∷ []
 
 -- the refusals of a command by itself, up to 14
-abbrev pub command_tests : Command → (image request : List ℕ) → State → List (Bool × ℕ)
+abbrev pub command_tests : Command → (image request : List ℕ) → State → List (Bool × Refusal)
 command_tests Clkc image request s = []
 command_tests Klod image request s = load_tests image request s
 command_tests Kunl image request s = unload_tests s.context request
@@ -157,20 +144,20 @@ klod_or_kunl Rhpk = false
 klod_or_kunl Unknown = false
 
 -- 17 "a mailbox command other than FSTA while a reply is awaited or a place waits", 18 "KLOD or KUNL while a place is unsure"
-abbrev pub engine_tests : Command → (context : List ℕ) → List (Bool × ℕ)
+abbrev pub engine_tests : Command → (context : List ℕ) → List (Bool × Refusal)
 engine_tests command context =
-    (other_than_fsta command && busy (cache_of context), 17)
-    ∷ (klod_or_kunl command && has_place (cache_of context) Unsure, 18)
+    (other_than_fsta command && busy (cache_of context), EngineBusy)
+    ∷ (klod_or_kunl command && has_place (cache_of context) Unsure, PlaceUnsure)
     ∷ []
 
 -- 20 "no such handle", 21 "numbers used up", of RHPK
-abbrev pub rotation_tests : Table → (request : List ℕ) → List (Bool × ℕ)
+abbrev pub rotation_tests : Table → (request : List ℕ) → List (Bool × Refusal)
 rotation_tests t request =
-    (not (has_handle t (handle_in request)), 20)
-    ∷ (used_up t, 21)
+    (not (has_handle t (handle_in request)), NoSuchHandle)
+    ∷ (used_up t, NumbersUsedUp)
     ∷ []
 
-abbrev pub handle_tests : Command → (context request : List ℕ) → List (Bool × ℕ)
+abbrev pub handle_tests : Command → (context request : List ℕ) → List (Bool × Refusal)
 handle_tests Clkc context request = []
 handle_tests Klod context request = []
 handle_tests Kunl context request = []
@@ -181,7 +168,7 @@ handle_tests Rhpk context request = rotation_tests (table_of context) request
 handle_tests Unknown context request = []
 
 -- request P5: "Refusals, after 14 and before 15"; request P6: "Refusals, after 19"
-abbrev pub own_tests : Command → (image request : List ℕ) → State → List (Bool × ℕ)
+abbrev pub own_tests : Command → (image request : List ℕ) → State → List (Bool × Refusal)
 own_tests command image request s = command_tests command image request s ++ (engine_tests command s.context ++ handle_tests command s.context request)
 
 -- 2, "for the mailbox also": "block not 128 or response buffer under 20 bytes", now 40; request P6: "a table count outside 1 to 3"
@@ -189,18 +176,18 @@ abbrev pub lent_bad : (room block : ℕ) (context : List ℕ) → Bool
 lent_bad room block context = not (eqb block 128) || (ltb room least_room || not (has_table (table_of context)))
 
 -- the refusals of a call after the drive's own: 2 for the buffers and the table, 3 to 6 for the request, then the command's own
-abbrev pub later_tests : Command → (image : List ℕ) (code : ℕ) (request : List ℕ) (bad : Bool) → State → List (Bool × ℕ)
-later_tests command image code request bad s = (bad, 2) ∷ (request_tests command code request ++ own_tests command image request s)
+abbrev pub later_tests : Command → (image : List ℕ) (code : ℕ) (request : List ℕ) (bad : Bool) → State → List (Bool × Refusal)
+later_tests command image code request bad s = (bad, BadLent) ∷ (request_tests command code request ++ own_tests command image request s)
 
 -- all refusals of a call: 1 and 2 for the drive, then those; FERS's 15 is its run's, above
-abbrev pub mailbox_tests : (image marks : List ℕ) (code : ℕ) (request : List ℕ) (room block : ℕ) → State → List (Bool × ℕ)
+abbrev pub mailbox_tests : (image marks : List ℕ) (code : ℕ) (request : List ℕ) (room block : ℕ) → State → List (Bool × Refusal)
 mailbox_tests image marks code request room block s =
     drive_tests image s.cells marks ++ later_tests (command_of code) image code request (lent_bad room block s.context) s
 
 -- "the lowest that applies is given, and none is given otherwise", where by requests P5 and P6 17, 18, 20 and 21 are checked before 15
-unfoldable pub done_of : (image marks : List ℕ) (code : ℕ) (request : List ℕ) (room block : ℕ) → State → Outcome Effect (List ℕ)
+unfoldable pub done_of : (image marks : List ℕ) (code : ℕ) (request : List ℕ) (room block : ℕ) → State → Outcome (Result Effect Refusal) (List ℕ)
 done_of image marks code request room block s =
-    first_of (refusing refused s.cells) (mailbox_tests image marks code request room block s) (accepted (command_of code) image marks request s)
+    first_of (refusing Err s.cells) (mailbox_tests image marks code request room block s) (accepted (command_of code) image marks request s)
 
 -- ---- what an effect leaves
 
@@ -211,12 +198,14 @@ context_by (Clear timeout) tag context = clearing context
 context_by (Load place timeout) tag context = waiting_at place tag load_reply context
 context_by (Unload place timeout) tag context = waiting_at place tag unload_reply context
 
--- the context: as the order makes it, with the handle replaced that a rotation names, by the number that its response tells (request P6)
-abbrev pub context_after : Effect → (context : List ℕ) → List ℕ
-context_after e context = rotated_at e.rotates e.numbers.first (context_by e.order e.tag context)
+-- the context: as the order makes it, with the handle replaced that a rotation names, by the number that its response tells (request P6);
+-- a refusal leaves it
+abbrev pub context_after : Result Effect Refusal → (context : List ℕ) → List ℕ
+context_after (Ok e) context = rotated_at e.rotates (get_or e.numbers 0 0) (context_by e.order e.tag context)
+context_after (Err refusal) context = context
 
 -- the state: the cells as they were left, and the context
-abbrev pub state_after : Outcome Effect (List ℕ) → State → State
+abbrev pub state_after : Outcome (Result Effect Refusal) (List ℕ) → State → State
 state_after done s = with_context (context_after done.told s.context) (with_cells done.after s)
 
 -- the column "engine": "clear; block all zero", "load; MEK, METD = tag .., AUX zero", "unload; as load with MEK zero"; "Where the
@@ -227,14 +216,20 @@ block_after (Clear timeout) tag request block = engine_block [] 0
 block_after (Load place timeout) tag request block = engine_block (mek_at (request_fields Klod) request) tag
 block_after (Unload place timeout) tag request block = engine_block [] tag
 
--- the response, by the command's field list
-abbrev pub response_after : Effect → (response : List ℕ) → List ℕ
-response_after e response = cond (eqb e.refusal 0) (response_in e.command e.numbers response) response
+-- so of an effect; a refusal leaves the block
+abbrev pub block_left : Result Effect Refusal → (request block : List ℕ) → List ℕ
+block_left (Ok e) request block = block_after e.order e.tag request block
+block_left (Err refusal) request block = block
 
--- the refusal's number, or "the response length" and "the engine order: none, or clear with the timeout, or load or unload with place
--- and timeout"
-abbrev pub reply_of : Effect → Reply
-reply_of e = cond (eqb e.refusal 0) (Accepted (length_of (response_fields e.command e.numbers)) e.order) (Refused e.refusal)
+-- the response, by the command's field list
+abbrev pub response_after : Result Effect Refusal → (response : List ℕ) → List ℕ
+response_after (Ok e) response = response_in e.command e.numbers response
+response_after (Err refusal) response = response
+
+-- the refusal, or "the response length" and "the engine order: none, or clear with the timeout, or load or unload with place and timeout"
+abbrev pub reply_of : Result Effect Refusal → Result Reply Refusal
+reply_of (Ok e) = Ok (record { length = length_of (response_fields e.command e.numbers); order = e.order })
+reply_of (Err refusal) = Err refusal
 
 -- ---- a call
 
@@ -248,14 +243,13 @@ abbrev pub lent : State → (response block : List ℕ) → Lent
 lent state response block = record { state = state; response = response; block = block }
 
 -- what was done, as what the call tells and leaves
-abbrev pub written_out : (request : List ℕ) → Lent → Outcome Effect (List ℕ) → Outcome Reply Lent
+abbrev pub written_out : (request : List ℕ) → Lent → Outcome (Result Effect Refusal) (List ℕ) → Outcome (Result Reply Refusal) Lent
 written_out request l done =
-    let e : Effect = done.told in
-    outcome (reply_of e)
-    (lent (state_after done l.state) (response_after e l.response) (block_after e.order e.tag request l.block))
+    outcome (reply_of done.told)
+    (lent (state_after done l.state) (response_after done.told l.response) (block_left done.told request l.block))
 
 -- a call of the mailbox
-abbrev pub mailbox_of : (image marks : List ℕ) (code : ℕ) (request : List ℕ) → Lent → Outcome Reply Lent
+abbrev pub mailbox_of : (image marks : List ℕ) (code : ℕ) (request : List ℕ) → Lent → Outcome (Result Reply Refusal) Lent
 mailbox_of image marks code request l =
     written_out request l (done_of image marks code request (length l.response) (length l.block) l.state)
 

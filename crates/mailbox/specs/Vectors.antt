@@ -1,9 +1,11 @@
 -- A load, its unload, a clear, a list of handles and a rotation on the small drive, and each refusal where every later one applies too, by
 -- computation. Document 01's cases are in `history` SmallDrive. Assumes nothing.
-use Rattle.std.specs.Prelude.{ℕ, ◌-◌, ◌≡◌, refl, List, [], ◌∷◌, ◌++◌, map, replicate}
+use Rattle.std.specs.Prelude.{true, ℕ, ◌-◌, ◌≡◌, refl, List, [], ◌∷◌, ◌++◌, map, replicate, Result, Ok, Err, is_ok}
 use Rattle.std.specs.Int.Count.{ones_in}
 use Rattle.laws.specs.Tests.{every}
 use Rattle.laws.specs.Below.{all_below, count_below, first_from}
+use Rattle.refusal.specs.declared.Refusal.{Refusal}
+use Rattle.refusal.specs.declared.Refusal.TheVariants.{BadMap, BadLent, UnknownCode, WrongLength, WrongChksum, ReservedNotZero, NotThere, NotAllowed, SlotInUse, HekNotAvailable, TagHeld, NoEmptyPlace, TagNotHeld, NotMarked, EngineBusy, PlaceUnsure, NoSuchHandle, NumbersUsedUp}
 use Rattle.endian.specs.Endian.{u16_at, u32_at, bytes4}
 use Rattle.context.specs.State.{state, Outcome, outcome}
 use Rattle.map.specs.Map.{header_good, filler_good, entry_good, place_good, map_good}
@@ -21,11 +23,10 @@ use Rattle.engine.specs.declared.Order.TheVariants.{Nothing, Clear, Load, Unload
 use Rattle.codec.specs.Request.{request_tests}
 use Rattle.mailbox.specs.declared.effects.Effect.{Effect}
 use Rattle.mailbox.specs.declared.Reply.{Reply}
-use Rattle.mailbox.specs.declared.Reply.TheVariants.{Accepted}
-use Rattle.mailbox.specs.Mailbox.{refused, done_of, Lent, lent, mailbox_of}
+use Rattle.mailbox.specs.Mailbox.{done_of, Lent, lent, mailbox_of}
 
 -- a call, by computation: to unfold this is to unfold all that it computes with
-runs : (image marks : List ℕ) (code : ℕ) (request : List ℕ) → Lent → Outcome Reply Lent
+runs : (image marks : List ℕ) (code : ℕ) (request : List ℕ) → Lent → Outcome (Result Reply Refusal) Lent
 unfolding done_of request_tests map_good whole_arrays every header_good filler_good entry_good place_good all_below u16_at u32_at active_slot open_slot
     slot_at survey_at state_of marked short_at zero_cell count_below first_from ones_in cache_of is_at placed turned_below table_of is_held_at rotated
 runs = mailbox_of
@@ -48,30 +49,30 @@ abbrev one_key : (kind awaited : ℕ) → List ℕ
 one_key kind awaited = kind ∷ zeros 15 ++ (0x1_0000_0002 ∷ zeros 15) ++ (awaited ∷ table)
 
 -- a call on the small drive, with a block of sevens and a response buffer of 40 nines
-abbrev call : (context : List ℕ) (code : ℕ) (request : List ℕ) → Outcome Reply Lent
+abbrev call : (context : List ℕ) (code : ℕ) (request : List ℕ) → Outcome (Result Reply Refusal) Lent
 call context code request = runs small (replicate 12 0) code request (lent (state cells context) (replicate 40 9) (replicate 128 7))
 
 -- a load with timeout 5 of that tag with an MEK of threes, and its unload: the place waits, and the reply is awaited
 load :
     call (no_key 0) 0x4B4C_4F44 (bytes4 0xFFFF_FE0E ++ bytes4 0 ++ bytes4 5 ++ bytes4 2 ++ bytes4 1 ++ replicate 64 3)
-    ≡ outcome (Accepted 16 (Load 0 5))
+    ≡ outcome (Ok (record { length = 16; order = (Load 0 5) }))
     (lent (state cells (one_key 2 2)) (zeros 16 ++ replicate 24 9) (replicate 64 3 ++ (2 ∷ 0 ∷ 0 ∷ 0 ∷ 1 ∷ 0 ∷ 0 ∷ 0 ∷ zeros 56)))
 unfolding runs
 load = refl
 
 unload :
     call (one_key 1 0) 0x4B55_4E4C (bytes4 0xFFFF_FEBE ++ bytes4 0 ++ bytes4 5 ++ bytes4 2 ++ bytes4 1)
-    ≡ outcome (Accepted 12 (Unload 0 5))
+    ≡ outcome (Ok (record { length = 12; order = (Unload 0 5) }))
     (lent (state cells (one_key 2 3)) (zeros 12 ++ replicate 28 9) (zeros 64 ++ (2 ∷ 0 ∷ 0 ∷ 0 ∷ 1 ∷ 0 ∷ 0 ∷ 0 ∷ zeros 56)))
 unfolding runs
 unload = refl
 
 -- a clear with timeout 1,000: of a held place, of an unsure one and of an empty cache
-abbrev clears : (context : List ℕ) → Outcome Reply Lent
+abbrev clears : (context : List ℕ) → Outcome (Result Reply Refusal) Lent
 clears context = call context 0x434C_4B43 (bytes4 0xFFFF_FDF8 ++ bytes4 0 ++ bytes4 1000)
 
-abbrev cleared : (context : List ℕ) → Outcome Reply Lent
-cleared context = outcome (Accepted 12 (Clear 1000)) (lent (state cells context) (zeros 12 ++ replicate 28 9) (zeros 128))
+abbrev cleared : (context : List ℕ) → Outcome (Result Reply Refusal) Lent
+cleared context = outcome (Ok (record { length = 12; order = (Clear 1000) })) (lent (state cells context) (zeros 12 ++ replicate 28 9) (zeros 128))
 
 clear : map clears (one_key 1 0 ∷ one_key 3 0 ∷ no_key 0 ∷ []) ≡ map cleared (one_key 2 1 ∷ one_key 2 1 ∷ no_key 1 ∷ [])
 unfolding runs
@@ -84,15 +85,15 @@ abbrev three : (first greatest : ℕ) → List ℕ
 three first greatest = zeros 33 ++ (3 ∷ first ∷ 0xFFFF_FFFF_0000_0007 ∷ 0x4_0000_0005 ∷ greatest ∷ [])
 
 -- EHDL and RHPK of handle 5
-abbrev lists : (context : List ℕ) → Outcome Reply Lent
+abbrev lists : (context : List ℕ) → Outcome (Result Reply Refusal) Lent
 lists context = call context 0x4548_444C (bytes4 0xFFFF_FEE3 ++ bytes4 0)
 
-abbrev rotates : (context : List ℕ) → Outcome Reply Lent
+abbrev rotates : (context : List ℕ) → Outcome (Result Reply Refusal) Lent
 rotates context = call context 0x5248_504B (bytes4 0xFFFF_FEC6 ++ bytes4 0 ++ bytes4 5)
 
 -- what they leave: no order, the block of sevens, and behind the response the nines of the buffer
-abbrev tells : (n : ℕ) (context response : List ℕ) → Outcome Reply Lent
-tells n context response = outcome (Accepted n Nothing) (lent (state cells context) (response ++ replicate (40 - n) 9) (replicate 128 7))
+abbrev tells : (n : ℕ) (context response : List ℕ) → Outcome (Result Reply Refusal) Lent
+tells n context response = outcome (Ok (record { length = n; order = Nothing })) (lent (state cells context) (response ++ replicate (40 - n) 9) (replicate 128 7))
 
 -- "count, then handle and algorithm for each": 24 bytes for one, 40 for three
 list_1 : lists (no_key 0) ≡ tells 24 (no_key 0) (bytes4 0xFFFF_FFF7 ++ bytes4 0 ++ bytes4 0 ++ bytes4 1 ++ bytes4 7 ++ bytes4 1)
@@ -134,7 +135,7 @@ room second third awaited = 0 ∷ second ∷ third ∷ zeros 13 ++ replicate 16 
 abbrev erased : List ℕ
 erased = replicate 6 0xFFFF_FFFF ++ replicate 6 0
 
-abbrev does : (image cells context : List ℕ) (code : ℕ) (request : List ℕ) (room block : ℕ) → Effect
+abbrev does : (image cells context : List ℕ) (code : ℕ) (request : List ℕ) (room block : ℕ) → Result Effect Refusal
 does image cells context code request room block = (done_of image (replicate 12 0) code request room block (state cells context)).told
 
 -- a RHPK of handle 5, and a table of the handle 4 alone, with another past it, and no number left
@@ -186,23 +187,24 @@ refusals :
     ∷ does small cells (three 0x1_0000_0000 0xFFFF_FFFF) 0x5248_504B rhpk_5 40 128
     ∷ does small cells (three 0 0x1_0000_0000_0000) 0x5248_504B rhpk_5 40 128
     ∷ []
-    ≡ map refused
-    (1 ∷ 2 ∷ 2 ∷ 2 ∷ 2 ∷ 2 ∷ 3 ∷ 4 ∷ 5 ∷ 6 ∷ 7 ∷ 8 ∷ 10 ∷ 11 ∷ 12 ∷ 13 ∷ 14 ∷ 17 ∷ 17 ∷ 17 ∷ 17 ∷ 18 ∷ 18
-    ∷ 17 ∷ 17 ∷ 20 ∷ 20 ∷ 21 ∷ 21 ∷ [])
+    ≡ map Err
+    (BadMap ∷ BadLent ∷ BadLent ∷ BadLent ∷ BadLent ∷ BadLent ∷ UnknownCode ∷ WrongLength ∷ WrongChksum ∷ ReservedNotZero ∷ NotThere ∷ NotAllowed
+    ∷ SlotInUse ∷ HekNotAvailable ∷ TagHeld ∷ NoEmptyPlace ∷ TagNotHeld ∷ EngineBusy ∷ EngineBusy ∷ EngineBusy ∷ EngineBusy ∷ PlaceUnsure
+    ∷ PlaceUnsure ∷ EngineBusy ∷ EngineBusy ∷ NoSuchHandle ∷ NoSuchHandle ∷ NumbersUsedUp ∷ NumbersUsedUp ∷ [])
 unfolding runs
 refusals = refl
 
 -- FERS of a partition that is no slot, every fuse of its indicator stuck: 17 while a reply is awaited, before any burn, else 15
-abbrev fers_1 : (awaited : ℕ) → Outcome Effect (List ℕ)
+abbrev fers_1 : (awaited : ℕ) → Outcome (Result Effect Refusal) (List ℕ)
 fers_1 awaited =
     done_of (image 2 12 60 8 [] (entry 0 6 0 7 ++ entry 6 6 0 1)) (replicate 10 0 ++ replicate 2 0xFFFF_FFFF) 0x4645_5253 (bytes4 0xFFFF_FECF ++ bytes4 0 ++ bytes4 1) 40 128
     (state cells (no_key awaited))
 
-fers : map fers_1 (3 ∷ 0 ∷ []) ≡ outcome (refused 17) cells ∷ outcome (refused 15) cells ∷ []
+fers : map fers_1 (3 ∷ 0 ∷ []) ≡ outcome (Err EngineBusy) cells ∷ outcome (Err NotMarked) cells ∷ []
 unfolding runs run_on burns_of order words_from stops_after goes_on burn_word burn_cell
 fers = refl
 
 -- FSTA alone is carried out while a reply is awaited, a place waits and another is unsure
-waits : (does small cells (full 3) 0x4653_5441 (bytes4 0xFFFF_FED2 ++ bytes4 0) 40 128).refusal ≡ 0
+waits : is_ok (does small cells (full 3) 0x4653_5441 (bytes4 0xFFFF_FED2 ++ bytes4 0) 40 128) ≡ true
 unfolding runs
 waits = refl

@@ -4,7 +4,7 @@
 // `effects`; FERS burns there); then it is written out unless it is refused: a refusal changes nothing,
 // 15 of FERS too, whose burn has set no fuse. `call` answers for any bytes and any lengths. The
 // definitions are in `specs/Mailbox`, the laws in `proofs/Judging`, `Laws`, `Told` and `Handles`. It
-// rests on `codec`, `engine`, `erasure`, `handles` and what lies below them.
+// rests on `codec`, `engine`, `erasure`, `handles`, `refusal` and what lies below them.
 #![tactic(auto)]
 
 mod effects;
@@ -14,16 +14,18 @@ ghost use Rattle.std.specs.Prelude.{◌≡◌, length};
 ghost use Rattle.context.specs.State.{state, outcome};
 ghost use Rattle.mailbox.specs.Mailbox.{lent_bad, done_of, context_by, context_after, block_after, lent, mailbox_of, Fits};
 
+use codec::Command;
 use context::Context;
-use drive::Check;
+use drive::Drive;
 use effects::Effect;
 use engine::Order;
+use refusal::Refusal;
 
-// The refusal's number, or the response's bytes and the engine's order.
+// What a call that is not refused tells: the response's bytes and the engine's order.
 #[derive(Clone, Copy)]
-pub enum Reply {
-    Refused(u32),
-    Accepted { length: u32, order: Order },
+pub struct Reply {
+    pub length: u32,
+    pub order: Order,
 }
 
 // The bytes of the engine block.
@@ -33,7 +35,7 @@ const BLOCK_BYTES: usize = 128;
 fn is_lent_bad(room: usize, block: usize, context: &Context) -> bool
     ensures { result ≡ lent_bad room block context.now }
 {
-    (block != BLOCK_BYTES) | ((room < codec::LEAST_ROOM) | !handles::has_table(context))
+    block != BLOCK_BYTES || room < codec::LEAST_ROOM || !handles::has_table(context)
 }
 
 // What a call does: every refusal, in their order, 17, 18, 20 and 21 before 15; and the burns of FERS. `room` and
@@ -47,28 +49,18 @@ fn effect_of(
     request: &[u8],
     room: usize,
     block: usize,
-) -> Effect
+) -> Result<Effect, Refusal>
     ensures { outcome result cells.new
         ≡ done_of image.now marks.now code request.now room block (state cells.old context.now) }
 {
-    match drive::check_drive(image, cells, marks) {
-        Check::Refused(number) => effects::refuse(number),
-        Check::Ready(_) => {
-            if is_lent_bad(room, block, context) {
-                return effects::refuse(2);
-            }
-            let command = codec::command_of(code);
-            let number = codec::request_refusal(command, code, request);
-            if number != 0 {
-                return effects::refuse(number);
-            }
-            let own = judge::own_refusal(command, image, cells, context, request);
-            if own != 0 {
-                return effects::refuse(own);
-            }
-            effects::carry_out(command, image, cells, marks, context, request)
-        }
+    drive::check_drive(image, cells, marks)?;
+    if is_lent_bad(room, block, context) {
+        return Err(Refusal::BadLent);
     }
+    let command = Command::from(code);
+    codec::check_request(command, code, request)?;
+    judge::check_own(command, Drive { image, cells }, context, request)?;
+    effects::carry_out(command, image, cells, marks, context, request)
 }
 
 // The places that an order names wait for its reply.
@@ -77,42 +69,30 @@ fn await_reply(context: &mut Context, order: Order, tag: u64)
 {
     match order {
         Order::Nothing => (),
-        Order::Clear { timeout: _ } => cache::wait_for_clear(context),
-        Order::Load { place, timeout: _ } => {
-            cache::wait_at(context, place, tag, cache::LOAD_REPLY)
-        }
-        Order::Unload { place, timeout: _ } => {
-            cache::wait_at(context, place, tag, cache::UNLOAD_REPLY)
-        }
+        Order::Clear { .. } => cache::wait_for_clear(context),
+        Order::Load { place, .. } => cache::wait_at(context, place, tag, cache::LOAD_REPLY),
+        Order::Unload { place, .. } => cache::wait_at(context, place, tag, cache::UNLOAD_REPLY),
     }
 }
 
 // Changes the context as an effect does.
 fn update_context(context: &mut Context, effect: Effect)
-    ensures { context.new ≡ context_after effect context.old }
+    ensures { context.new ≡ context_after (Ok effect) context.old }
 {
-    let order = effect.order;
-    await_reply(context, order, effect.tag);
-    let numbers = effect.numbers;
-    handles::rotate(context, effect.rotates, numbers.first);
+    await_reply(context, effect.order, effect.tag);
+    handles::rotate(context, effect.rotates, effect.numbers[0]);
 }
 
-// Writes the engine block of an order. An empty part of the request is no key: its MEK is all zero.
+// Writes the engine block of an order. With no key its MEK is all zero.
 fn update_block(block: &mut [u8], request: &[u8], order: Order, tag: u64)
     requires { Fits order request.now block.old }
     ensures { block.new ≡ block_after order tag request.now block.old }
 {
     match order {
         Order::Nothing => (),
-        Order::Clear { timeout: _ } => engine::write_block(block, &request[..0], 0),
-        Order::Load {
-            place: _,
-            timeout: _,
-        } => engine::write_block(block, codec::mek_of(request), tag),
-        Order::Unload {
-            place: _,
-            timeout: _,
-        } => engine::write_block(block, &request[..0], tag),
+        Order::Clear { .. } => engine::write_block(block, &[], 0),
+        Order::Load { .. } => engine::write_block(block, codec::mek_of(request), tag),
+        Order::Unload { .. } => engine::write_block(block, &[], tag),
     }
 }
 
@@ -126,7 +106,7 @@ pub fn call(
     request: &[u8],
     response: &mut [u8],
     block: &mut [u8],
-) -> Reply
+) -> Result<Reply, Refusal>
     ensures { outcome result (lent (state cells.new context.new) response.new block.new)
         ≡ mailbox_of image.now marks.now code request.now
         (lent (state cells.old context.old) response.old block.old) }
@@ -140,18 +120,10 @@ pub fn call(
         request,
         response.len(),
         block.len(),
-    );
-    if effect.refusal != 0 {
-        return Reply::Refused(effect.refusal);
-    }
+    )?;
     update_context(context, effect);
     let order = effect.order;
     update_block(block, request, order, effect.tag);
-    let command = effect.command;
-    let numbers = effect.numbers;
-    let length = codec::write_response(response, command, numbers);
-    Reply::Accepted {
-        length: length,
-        order: order,
-    }
+    let length = codec::write_response(response, effect.command, effect.numbers);
+    Ok(Reply { length, order })
 }

@@ -4,7 +4,7 @@
 // alone have in common in `proofs/Guides`. It rests on `endian` and `laws`.
 #![tactic(auto)]
 
-ghost use Rattle.std.specs.Prelude.{◌≡◌, ◌+◌, ◌*◌, ◌^◌, ◌<◌, ◌≤◌, length};
+ghost use Rattle.std.specs.Prelude.{◌≡◌, ◌+◌, ◌*◌, ◌/◌, ◌%◌, ◌^◌, ◌<◌, ◌≤◌, length, eqb};
 ghost use Rattle.laws.specs.Below.{all_below};
 ghost use Rattle.map.specs.Map.{header_of, entry_at, entry_of, end_of, software, zeroizable, secret, slot, older_guide};
 ghost use Rattle.map.specs.Map.{header_good, filler_good, entry_good, place_good, map_good};
@@ -27,6 +27,7 @@ pub struct Entry {
     pub flags: u8,
 }
 
+// Kept as numbers: an image has any byte for a kind, and its fields are told even if the map is not good.
 // The kind that a secret partition has.
 const HARDWARE: u8 = 0;
 
@@ -34,6 +35,15 @@ const SOFTWARE: u8 = 1;
 
 // The kind that is never zeroizable and that no WRITE changes.
 pub const LIFE_CYCLE: u8 = 2;
+
+// The flags of a partition, by their numbers.
+const ZEROIZABLE: u8 = 1;
+
+const SECRET: u8 = 2;
+
+const SLOT: u8 = 4;
+
+const OLDER_GUIDE: u8 = 8;
 
 // The header of an image.
 pub fn read_header(image: &[u8]) -> Header
@@ -89,32 +99,40 @@ pub fn is_software(x: Entry) -> bool
     x.kind == SOFTWARE
 }
 
+// Whether a partition has the flag whose number is `flag`.
+fn has_flag(x: Entry, flag: u8) -> bool
+    requires { 0 < flag }
+    ensures { result ≡ eqb (x.flags / flag % 2) 1 }
+{
+    x.flags / flag % 2 == 1
+}
+
 // Whether a partition can be zeroized.
 pub fn is_zeroizable(x: Entry) -> bool
     ensures { result ≡ zeroizable x }
 {
-    x.flags % 2 == 1
+    has_flag(x, ZEROIZABLE)
 }
 
 // Whether a partition is secret.
 pub fn is_secret(x: Entry) -> bool
     ensures { result ≡ secret x }
 {
-    x.flags / 2 % 2 == 1
+    has_flag(x, SECRET)
 }
 
 // Whether a partition is a HEK slot.
 pub fn is_slot(x: Entry) -> bool
     ensures { result ≡ slot x }
 {
-    x.flags / 4 % 2 == 1
+    has_flag(x, SLOT)
 }
 
 // Whether a partition is on the older guide, by which ZEROIZE answers all ones.
 pub fn is_on_older_guide(x: Entry) -> bool
     ensures { result ≡ older_guide x }
 {
-    x.flags / 8 % 2 == 1
+    has_flag(x, OLDER_GUIDE)
 }
 
 // Whether the header of an image of `len` bytes keeps its rules.
@@ -139,10 +157,8 @@ fn filler_good(image: &[u8], offset: usize) -> bool
     ensures { result ≡ all_below (filler_good image.now) offset }
 {
     let mut good = true;
-    let mut k: usize = 8;
-    while k < offset {
-        good = good & (image[k] == 0);
-        k += 1;
+    for k in 8..offset {
+        good &= image[k] == 0;
     }
     good
 }
@@ -178,11 +194,9 @@ fn entries_good(image: &[u8], h: Header) -> bool
     requires { (h ≡ header_of image.now) × (length image.now ≡ h.offset + 8 * h.partitions) }
     ensures { result ≡ all_below (place_good image.now) h.partitions }
 {
-    let partitions = h.partitions as u32;
-    let mut at = h.offset as usize;
     let mut end: usize = 0;
-    let mut i: u32 = 0;
-    while i < partitions {
+    for i in 0..h.partitions as usize {
+        let at = (h.offset as usize) + 8 * i;
         let entry = &image[at..at + 8];
         let x = entry_at(entry, 0);
         let spare = endian::u16_at(entry, 6);
@@ -190,8 +204,6 @@ fn entries_good(image: &[u8], h: Header) -> bool
             return false;
         }
         end = end_of(x);
-        at += 8;
-        i += 1;
     }
     true
 }
@@ -201,11 +213,5 @@ pub fn is_good(image: &[u8]) -> bool
     ensures { result ≡ map_good image.now }
 {
     let h = read_header(image);
-    if !header_good(h, image.len()) {
-        return false;
-    }
-    if !filler_good(image, h.offset as usize) {
-        return false;
-    }
-    entries_good(image, h)
+    header_good(h, image.len()) && filler_good(image, h.offset as usize) && entries_good(image, h)
 }

@@ -1,13 +1,13 @@
 -- The laws of a partition's pairs and states: first what the proofs cite, then what callers cite in place of the definitions' text.
 -- Assumes nothing.
 -- The definitions stand in specs/Laws.antt.
-use Rattle.std.specs.Prelude.{ℕ, ◌+◌, ◌*◌, ◌^◌, ◌≤◌, ◌<◌, refl, Bool, true, false, cond, List, length, get_or, eqb}
+use Rattle.std.specs.Prelude.{ℕ, ◌+◌, ◌*◌, ◌^◌, ◌≤◌, ◌<◌, refl, Bool, true, false, cond, List, length, get_or, eqb, Some, None}
 use Rattle.std.proofs.Math.Logic.{⊎_elim}
 use Rattle.std.proofs.Math.Path.{◌≡◌, subst}
 use Rattle.std.proofs.Common.{sym, ◌∙◌, arith}
 use Rattle.std.proofs.lemmas.Bool.{false≢true}
 use Rattle.std.proofs.Math.Dec.{ltb}
-use borrow.Author.Tests.{eqb-true, eqb-false, le-leb, leb-true, ltb-true, ltb-false, not-true, eq-eqb, ne_eqb, lt-ltb, le-ltb}
+use borrow.Author.Tests.{eqb-true, eqb-false, le-leb, leb-true, ltb-true, ltb-false, not-true, ne_eqb, lt-ltb, le-ltb}
 use Rattle.laws.specs.Tests.{and, decided, not_yes}
 use Rattle.laws.specs.Bits.{◌⊆◌}
 use Rattle.laws.proofs.Below.{count_none, first_tells, first_within}
@@ -15,26 +15,17 @@ use Rattle.laws.specs.Below.{First}
 use Rattle.fuse.proofs.Burn.{short_anti}
 use Rattle.partition.specs.declared.State.{State}
 use Rattle.partition.specs.Partition.{pairs, indicator, short_at, lowest_pair, lowest_short, short_pairs, short_besides, SomeBesides, counted, marked}
-use Rattle.partition.specs.Partition.{no_data, state_of, zero_cell}
-use Rattle.partition.specs.declared.Lowest.TheVariants.{Cell, Nothing}
+use Rattle.partition.specs.Partition.{no_data, state_of}
 use Rattle.partition.specs.declared.State.TheVariants.{Erased, Torn, Blank, Programmed}
 use Rattle.partition.specs.Laws.{LowestAt}
 
-pub zero_cell_lem : (part : List ℕ) (k : ℕ) → get_or part k 0 ≡ 0 → zero_cell part k ≡ true
-unfolding zero_cell
-zero_cell_lem part k z = eq-eqb _ _ z
-
-pub not_zero_cell : (part : List ℕ) (k : ℕ) → (get_or part k 0 ≡ 0 → ⊥) → zero_cell part k ≡ false
-unfolding zero_cell
-not_zero_cell part k n = ne_eqb _ _ n
-
 module _ (bound : ℕ) (part : List ℕ) where
   -- the answer of a search that ended at pair j
-  pub lowest_cell : (j : ℕ) → j < pairs part → lowest_pair bound part ≡ j → Cell (2 * j) ≡ lowest_short bound part
+  pub lowest_cell : (j : ℕ) → j < pairs part → lowest_pair bound part ≡ j → Some (2 * j) ≡ lowest_short bound part
   unfolding lowest_short
   lowest_cell j l e = rw (e, lt-ltb _ _ l)
 
-  pub lowest_none : lowest_pair bound part ≡ pairs part → Nothing ≡ lowest_short bound part
+  pub lowest_none : lowest_pair bound part ≡ pairs part → None ≡ lowest_short bound part
   unfolding lowest_short
   lowest_none e = rw (e, le-ltb (pairs part) (pairs part) (omega arith))
 
@@ -119,12 +110,12 @@ counted_mono zeroizable bound part more len small small' grown c =
 
 module _ (bound : ℕ) (part : List ℕ) where
   -- it is there where some pair is short
-  pub some_lowest : (short_pairs bound part ≡ 0 → ⊥) → lowest_short bound part ≡ Cell (2 * lowest_pair bound part)
+  pub some_lowest : (short_pairs bound part ≡ 0 → ⊥) → lowest_short bound part ≡ Some (2 * lowest_pair bound part)
   unfolding lowest_short
   some_lowest some = rw (lt-ltb _ _ (first_within (short_at bound part) (pairs part) some))
 
   -- and none where none is
-  pub no_lowest : short_pairs bound part ≡ 0 → Nothing ≡ lowest_short bound part
+  pub no_lowest : short_pairs bound part ≡ 0 → None ≡ lowest_short bound part
   no_lowest none =
       let j = lowest_pair bound part in
       let w : First (short_at bound part) 0 (pairs part) j = first_tells (short_at bound part) 0 (pairs part) in
@@ -133,15 +124,15 @@ module _ (bound : ℕ) (part : List ℕ) where
       (λ (l : ltb j (pairs part) ≡ false). lowest_none bound part (omega (arith, w.most, ltb-false j (pairs part) l)))
       (decided (ltb j (pairs part)))
 
-  pub lowest_tells : (k : ℕ) → Cell k ≡ lowest_short bound part → LowestAt bound part k
+  pub lowest_tells : (k : ℕ) → Some k ≡ lowest_short bound part → LowestAt bound part k
   unfolding lowest_short
   lowest_tells k e =
       let j = lowest_pair bound part in
       let w : First (short_at bound part) 0 (pairs part) j = first_tells (short_at bound part) 0 (pairs part) in
       ⊎_elim
       (λ (l : ltb j (pairs part) ≡ true).
-      let q : Cell k ≡ Cell (2 * j) = rw l at e in
+      let q : Some k ≡ Some (2 * j) = rw l at e in
       let i = ltb-true _ _ l in
       record { pair = j; cell = cc; within = i; short_there = w.at (omega arith); none_before = λ i a. w.before i (omega arith) a })
-      (λ (l : ltb j (pairs part) ≡ false). let q : Cell k ≡ Nothing = rw l at e in let z : ◌≡◌ {A = ℕ} 0 1 = cc in absurd (omega arith))
+      (λ (l : ltb j (pairs part) ≡ false). let q : Some k ≡ None = rw l at e in let z : ◌≡◌ {A = ℕ} 0 1 = cc in absurd (omega arith))
       (decided (ltb j (pairs part)))

@@ -1,3 +1,4 @@
 pub mod Laws
 pub mod StateIs
 pub mod Marked
+pub mod Chains

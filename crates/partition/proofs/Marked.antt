@@ -1,7 +1,7 @@
 -- Request P4, "Call a zeroizable partition marked when its indicator has at least one set fuse": what it tells, what keeps it, how
 -- it stands to counted as zeroized, and what a marked partition's short pairs say of its state. Callers cite these laws in place of the
 -- definition's text. Assumes nothing.
-use Rattle.std.specs.Prelude.{ℕ, zero, suc, ◌+◌, ◌-◌, ◌*◌, ◌%◌, ◌^◌, ◌≤◌, ◌<◌, ◌⊎◌, ◌↔◌, ◌≡◌, Bool, cond, ◌&&◌, ◌||◌, List, length, get_or, eqb}
+use Rattle.std.specs.Prelude.{ℕ, zero, suc, ◌+◌, ◌-◌, ◌*◌, ◌%◌, ◌^◌, ◌≤◌, ◌<◌, ◌⊎◌, ◌↔◌, ◌≡◌, Bool, cond, ◌&&◌, ◌||◌, List, length, get_or, eqb, Some}
 use Rattle.std.proofs.Common.{inl, inr, ⊎_elim, sym, subst, ◌∙◌, eq-or-lt_of_le, add-zero, arith}
 use Rattle.std.proofs.Math.Path.{refl, ap}
 use Rattle.std.proofs.Math.Bool.{true, false, not, false≢true}
@@ -13,7 +13,6 @@ use Rattle.laws.specs.Below.{tally, count_below, First}
 use Rattle.laws.proofs.Below.{count_step, count_none, none_count, first_tells, first_is, first_within}
 use Rattle.fuse.specs.Fuse.{ones_of}
 use Rattle.fuse.proofs.Burn.{ones_zero, no_ones}
-use Rattle.partition.specs.declared.Lowest.TheVariants.{Cell}
 use Rattle.partition.specs.declared.State.TheVariants.{Erased, Torn}
 use Rattle.partition.specs.Partition.{pairs, pair_at, indicator, short_at, short_pairs, lowest_pair, lowest_short, counted, marked, short_besides, lowest_besides, SomeBesides, state_of}
 use Rattle.partition.proofs.StateIs.{erased_is}
@@ -144,7 +143,7 @@ module _ (zeroizable : Bool) (bound : ℕ) (part : List ℕ) where
     some = (marked_tells zeroizable part m).1
 
     -- erased exactly when no pair is short or the lowest short one is the indicator
-    pub erased_exactly : (state_of zeroizable bound part ≡ Erased) ↔ ((short_pairs bound part ≡ 0) ⊎ (lowest_short bound part ≡ Cell (2 * indicator part)))
+    pub erased_exactly : (state_of zeroizable bound part ≡ Erased) ↔ ((short_pairs bound part ≡ 0) ⊎ (lowest_short bound part ≡ Some (2 * indicator part)))
     erased_exactly = (
       (λ e. let rest = (erased_tells zeroizable bound part e).1 in
           ⊎_elim
@@ -155,12 +154,12 @@ module _ (zeroizable : Bool) (bound : ℕ) (part : List ℕ) where
           (⊎_elim (λ (none : short_pairs bound part ≡ 0). omega (arith, shorts_split bound part some, none)) before told),
     )
       where
-        alone : short_besides bound part ≡ 0 → short_at bound part (indicator part) ≡ true → lowest_short bound part ≡ Cell (2 * indicator part)
+        alone : short_besides bound part ≡ 0 → short_at bound part (indicator part) ≡ true → lowest_short bound part ≡ Some (2 * indicator part)
         alone rest y =
             let first = first_is (short_at bound part) (pairs part) (indicator part) (omega (arith, some)) y (λ j l. count_none (short_at bound part) (indicator part) rest j l) in
             sym (lowest_cell bound part (indicator part) (omega (arith, some)) first)
 
-        before : lowest_short bound part ≡ Cell (2 * indicator part) → short_besides bound part ≡ 0
+        before : lowest_short bound part ≡ Some (2 * indicator part) → short_besides bound part ≡ 0
         before e =
             let w = lowest_tells bound part (2 * indicator part) (sym e) in
             none_count (short_at bound part) (indicator part) (λ j l. w.none_before j (omega (arith, w.cell)))
@@ -181,3 +180,6 @@ module _ (bound : ℕ) (part : List ℕ) (some : SomeBesides bound part) where
       let j = lowest_besides bound part in
       let w : First (short_at bound part) 0 (indicator part) j = first_tells (short_at bound part) 0 (indicator part) in
       first_is (short_at bound part) (pairs part) j (omega (arith, torn_within)) (w.at (omega (arith, torn_within))) (λ k l. w.before k (omega arith) l)
+
+  pub torn_lowest : lowest_short bound part ≡ Some (2 * lowest_besides bound part)
+  torn_lowest = sym (lowest_cell bound part (lowest_besides bound part) (omega (arith, torn_within)) torn_first)

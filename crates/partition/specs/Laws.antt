@@ -7,7 +7,7 @@ use Rattle.partition.specs.Partition.{pairs, short_at}
 
 -- ---- the lowest short pair
 
--- the answer Cell k is pair j, which is short, and none before it is
+-- the answer Some k is pair j, which is short, and none before it is
 pub record LowestAt (bound : ℕ) (part : List ℕ) (k : ℕ) : Type 0 where
   pub pair : ℕ
   pub cell : k ≡ 2 * pair

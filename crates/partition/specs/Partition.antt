@@ -1,11 +1,9 @@
 -- Document 01, "Burning and counting", with request P4, over a partition's cells, counted from where the partition starts. Assumes nothing.
-use Rattle.std.specs.Prelude.{ℕ, ◌+◌, ◌-◌, ◌*◌, ◌/◌, ◌≡◌, Bool, cond, ◌&&◌, not, List, length, get_or, eqb, leb, ltb}
+use Rattle.std.specs.Prelude.{ℕ, ◌+◌, ◌-◌, ◌*◌, ◌/◌, ◌≡◌, Bool, cond, ◌&&◌, not, List, length, get_or, eqb, leb, ltb, Option, Some, None}
 use Rattle.laws.specs.Below.{all_below, count_below, first_below}
 use Rattle.fuse.specs.Fuse.{pair_of, ones_of, short}
 use Rattle.partition.specs.declared.Shorts.{Shorts}
 use Rattle.partition.specs.declared.ShortPair.{ShortPair}
-use Rattle.partition.specs.declared.Lowest.{Lowest}
-use Rattle.partition.specs.declared.Lowest.TheVariants.{Cell, Nothing}
 use Rattle.partition.specs.declared.State.{State}
 use Rattle.partition.specs.declared.State.TheVariants.{Erased, Torn, Blank, Programmed}
 use Rattle.partition.specs.declared.Survey.{Survey}
@@ -31,8 +29,8 @@ abbrev pub lowest_pair : (bound : ℕ) (part : List ℕ) → ℕ
 lowest_pair bound part = first_below (short_at bound part) (pairs part)
 
 -- the first cell of the lowest short pair, or none
-unfoldable pub lowest_short : (bound : ℕ) (part : List ℕ) → Lowest
-lowest_short bound part = cond (ltb (lowest_pair bound part) (pairs part)) (Cell (2 * lowest_pair bound part)) Nothing
+unfoldable pub lowest_short : (bound : ℕ) (part : List ℕ) → Option ℕ
+lowest_short bound part = cond (ltb (lowest_pair bound part) (pairs part)) (Some (2 * lowest_pair bound part)) None
 
 -- how many pairs are short, and the lowest of them
 abbrev pub shorts_of : (bound : ℕ) (part : List ℕ) → Shorts

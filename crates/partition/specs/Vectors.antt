@@ -1,10 +1,9 @@
 -- The customer's number, by computation: a partition of 32 cells, 1,024 fuses, bound 60, in which one pair lacks five fuses or four.
 -- Assumes nothing.
-use Rattle.std.specs.Prelude.{ℕ, ◌≡◌, refl, true, false, List, [], ◌∷◌, ◌++◌, replicate}
+use Rattle.std.specs.Prelude.{ℕ, ◌≡◌, refl, true, false, List, [], ◌∷◌, ◌++◌, replicate, Some, None}
 use Rattle.std.specs.Int.Count.{ones_in}
 use Rattle.laws.specs.Below.{all_below, count_below, first_from}
 use Rattle.partition.specs.Partition.{short_at, lowest_short, counted, marked, zero_cell, state_of, survey_of, torn_pair}
-use Rattle.partition.specs.declared.Lowest.TheVariants.{Cell, Nothing}
 use Rattle.partition.specs.declared.State.TheVariants.{Erased, Torn, Blank, Programmed}
 
 -- n cells with every fuse set
@@ -20,7 +19,7 @@ abbrev weak_indicator : (v : ℕ) → List ℕ
 weak_indicator v = full 31 ++ (v ∷ [])
 
 -- 59 of 64, 1,019 of 1,024 in all: torn, one short pair, the lowest starts at cell 6
-torn_59 : (survey_of true 60 (weak 0xFFFF_FFE0) ≡ record { state = Torn; short = 1 }) × (lowest_short 60 (weak 0xFFFF_FFE0) ≡ Cell 6)
+torn_59 : (survey_of true 60 (weak 0xFFFF_FFE0) ≡ record { state = Torn; short = 1 }) × (lowest_short 60 (weak 0xFFFF_FFE0) ≡ Some 6)
 unfolding state_of marked short_at count_below lowest_short first_from ones_in
 torn_59 = (refl, refl)
 
@@ -30,14 +29,14 @@ unfolding short_at first_from ones_in
 first_of_two = refl
 
 -- 60 of 64: erased
-erased_60 : (survey_of true 60 (weak 0xFFFF_FFF0) ≡ record { state = Erased; short = 0 }) × (lowest_short 60 (weak 0xFFFF_FFF0) ≡ Nothing)
+erased_60 : (survey_of true 60 (weak 0xFFFF_FFF0) ≡ record { state = Erased; short = 0 }) × (lowest_short 60 (weak 0xFFFF_FFF0) ≡ None)
 unfolding state_of marked short_at count_below lowest_short first_from ones_in
 erased_60 = (refl, refl)
 
 -- request P4: 59 of 64 in the indicator alone. It is not counted as zeroized, yet marked, so that it is erased; the indicator is told as
 -- short
 indicator_59 : (counted true 60 (weak_indicator 0xFFFF_FFE0) ≡ false) × (survey_of true 60 (weak_indicator 0xFFFF_FFE0) ≡ record { state = Erased; short = 1 })
-    × (lowest_short 60 (weak_indicator 0xFFFF_FFE0) ≡ Cell 30)
+    × (lowest_short 60 (weak_indicator 0xFFFF_FFE0) ≡ Some 30)
 unfolding state_of counted marked short_at count_below lowest_short first_from ones_in
 indicator_59 = (refl, refl, refl)
 

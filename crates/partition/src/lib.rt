@@ -6,21 +6,14 @@
 #![tactic(auto)]
 
 ghost use Rattle.std.specs.Prelude.{◌≡◌, ◌+◌, ◌*◌, ◌<◌, ◌≤◌, length};
-ghost use Rattle.partition.specs.Partition.{pair_at, short_at, short_pairs, lowest_pair, lowest_short, shorts_of, marked, tail, no_data, survey_of};
+ghost use Rattle.partition.specs.Partition.{pair_at, short_at, short_pairs, lowest_short, shorts_of, marked, tail, no_data, survey_of};
 ghost use Rattle.partition.specs.Partition.{SomeBesides, torn_pair};
 
-// The first cell of the lowest short pair, counted from the partition's start.
-#[derive(Clone, Copy)]
-pub enum Lowest {
-    Cell(usize),
-    Nothing,
-}
-
-// How many pairs are short, and the lowest of them.
+// How many pairs are short, and the lowest of them by its first cell, counted from the partition's start.
 #[derive(Clone, Copy)]
 pub struct Shorts {
     pub count: usize,
-    pub lowest: Lowest,
+    pub lowest: Option<usize>,
 }
 
 // A short pair: its first cell, counted from the partition's start, and its ones.
@@ -63,45 +56,26 @@ fn short_at(part: &[u32], j: usize, bound: u64) -> bool
 }
 
 // The number of short pairs.
+// Kept as a loop: `filter` and `count` were tried, and their machine code jumps at each pair, which is slower.
 fn short_pairs(part: &[u32], bound: u64) -> usize
     ensures { result ≡ short_pairs bound part.now }
 {
-    let pairs = part.len() / 2;
-    let mut short: usize = 0;
-    let mut j: usize = 0;
-    while j < pairs {
+    let mut short = 0;
+    for j in 0..part.len() / 2 {
         if short_at(part, j, bound) {
             short += 1;
         }
-        j += 1;
     }
     short
 }
 
-// The number of the lowest short pair, that of all pairs where none is short.
-fn lowest_pair(part: &[u32], bound: u64) -> usize
-    ensures { result ≡ lowest_pair bound part.now }
-{
-    let end = part.len() / 2;
-    let mut j: usize = 0;
-    while j < end {
-        if short_at(part, j, bound) {
-            return j;
-        }
-        j += 1;
-    }
-    end
-}
-
-// The lowest short pair.
-fn lowest_short(part: &[u32], bound: u64) -> Lowest
+// The first cell of the lowest short pair.
+fn lowest_short(part: &[u32], bound: u64) -> Option<usize>
     ensures { result ≡ lowest_short bound part.now }
 {
-    let j = lowest_pair(part, bound);
-    if j < part.len() / 2 {
-        return Lowest::Cell(2 * j);
-    }
-    Lowest::Nothing
+    (0..part.len() / 2)
+        .position(|j| short_at(part, j, bound))
+        .map(|j| 2 * j)
 }
 
 // How many pairs are short, and which is the lowest, which is looked for only where there is one.
@@ -109,16 +83,12 @@ pub fn shorts_of(part: &[u32], bound: u64) -> Shorts
     ensures { result ≡ shorts_of bound part.now }
 {
     let count = short_pairs(part, bound);
-    if count == 0 {
-        return Shorts {
-            count: 0,
-            lowest: Lowest::Nothing,
-        };
-    }
-    Shorts {
-        count: count,
-        lowest: lowest_short(part, bound),
-    }
+    let lowest = if count == 0 {
+        None
+    } else {
+        lowest_short(part, bound)
+    };
+    Shorts { count, lowest }
 }
 
 // The first short pair among those that a torn partition is judged by. The indicator, which is not one
@@ -127,10 +97,10 @@ pub fn torn_pair(part: &[u32], bound: u64) -> ShortPair
     requires { SomeBesides bound part.now }
     ensures { result ≡ torn_pair bound part.now }
 {
-    let j = lowest_pair(part, bound);
+    let cell = lowest_short(part, bound).unwrap();
     ShortPair {
-        cell: 2 * j,
-        ones: fuse::ones(pair_at(part, j)),
+        cell,
+        ones: fuse::ones(pair_at(part, cell / 2)),
     }
 }
 
@@ -139,13 +109,7 @@ pub fn is_marked(part: &[u32], zeroizable: bool) -> bool
     ensures { result ≡ marked zeroizable part.now }
 {
     let pairs = part.len() / 2;
-    if !zeroizable {
-        return false;
-    }
-    if pairs < 1 {
-        return false;
-    }
-    pair_at(part, pairs - 1) != 0
+    zeroizable && 1 <= pairs && pair_at(part, pairs - 1) != 0
 }
 
 // The cells from the digest on: digest and indicator of a zeroizable partition, the digest of any
@@ -160,15 +124,8 @@ pub fn tail_cells(zeroizable: bool) -> usize
 fn no_data(part: &[u32], zeroizable: bool) -> bool
     ensures { result ≡ no_data zeroizable part.now }
 {
-    let tail = tail_cells(zeroizable);
-    let mut k: usize = 0;
-    while k + tail < part.len() {
-        if part[k] != 0 {
-            return false;
-        }
-        k += 1;
-    }
-    true
+    let data = part.len().saturating_sub(tail_cells(zeroizable));
+    part[..data].iter().all(|cell| *cell == 0)
 }
 
 // A partition's state, and its short pairs. All pairs are told; all but the indicator, the last, tell
@@ -177,26 +134,16 @@ pub fn survey_cells(part: &[u32], bound: u64, zeroizable: bool) -> Survey
     ensures { result ≡ survey_of zeroizable bound part.now }
 {
     let short = short_pairs(part, bound);
-    if is_marked(part, zeroizable) {
+    let state = if is_marked(part, zeroizable) {
         if (short == 0) | ((short == 1) & short_at(part, part.len() / 2 - 1, bound)) {
-            return Survey {
-                state: State::Erased,
-                short,
-            };
+            State::Erased
+        } else {
+            State::Torn
         }
-        return Survey {
-            state: State::Torn,
-            short,
-        };
-    }
-    if no_data(part, zeroizable) {
-        return Survey {
-            state: State::Blank,
-            short,
-        };
-    }
-    Survey {
-        state: State::Programmed,
-        short,
-    }
+    } else if no_data(part, zeroizable) {
+        State::Blank
+    } else {
+        State::Programmed
+    };
+    Survey { state, short }
 }

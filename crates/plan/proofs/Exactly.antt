@@ -1,15 +1,15 @@
 -- Document 02, request P2, "Write the map", as one claim in the request's words: what is answered and written for every text and every
 -- buffer. Here is its proof. Assumes nothing.
 -- The definitions stand in specs/Exactly.antt.
-use Rattle.std.specs.Prelude.{ℕ, ◌<◌, ◌≡◌, refl, ◌⊎◌, ◌↔◌, true, false, not, List, ◌++◌, length, take, drop, ltb}
+use Rattle.std.specs.Prelude.{ℕ, ◌<◌, ◌≡◌, refl, ◌⊎◌, ◌↔◌, true, false, not, List, ◌++◌, length, take, drop, ltb, Result, Ok, Err}
 use Rattle.std.proofs.Common.{sym, ap, subst, ◌∙◌, inl, inr, ⊎_elim, arith, length-append, length-drop, take_at, drop_at, ltb-true, ltb-false}
 use Rattle.std.proofs.lemmas.Bool.{false≢true}
 use Rattle.laws.specs.Tests.{decided}
+use Rattle.refusal.specs.declared.Refusal.{Refusal}
+use Rattle.refusal.specs.declared.Refusal.TheVariants.{BadMap, BadText}
 use Rattle.context.specs.State.{Outcome, refusing}
 use Rattle.map.specs.Map.{map_good}
 use Rattle.map.specs.declared.Header.{Header}
-use Rattle.plan.specs.declared.Answer.{Answer}
-use Rattle.plan.specs.declared.Answer.TheVariants.{Written, Refused}
 use Rattle.plan.specs.Form.{Plan, Form}
 use Rattle.plan.specs.Reading.{has_form, plan_of}
 use Rattle.plan.specs.Writing.{image_of, room_for, in_front, writing_of}
@@ -26,10 +26,10 @@ module _ (t before : List ℕ) where
   one_plan p q f g = sym (form_has t p f).1 ∙ (form_has t q g).1
 
   -- the four ways to be answered
-  data Way : Outcome Answer (List ℕ) → Type 0 where
-    formless : ((p : Plan) → Form t p → ⊥) → Way (refusing Refused before 16)
-    short : (p : Plan) → Form t p → length before < room_for p → Way (refusing Refused before 16)
-    bad : (p : Plan) → Ready t before p → map_good (image_of p) ≡ false → Way (refusing Refused before 1)
+  data Way : Outcome (Result ℕ Refusal) (List ℕ) → Type 0 where
+    formless : ((p : Plan) → Form t p → ⊥) → Way (refusing Err before BadText)
+    short : (p : Plan) → Form t p → length before < room_for p → Way (refusing Err before BadText)
+    bad : (p : Plan) → Ready t before p → map_good (image_of p) ≡ false → Way (refusing Err before BadMap)
     good : (p : Plan) → Ready t before p → map_good (image_of p) ≡ true → Way (in_front (image_of p) before)
 
   way : Way (writing_of t before)
@@ -53,46 +53,46 @@ module _ (t before : List ℕ) where
   no_map : (p : Plan) → map_good (image_of p) ≡ false → SomeMap p → ⊥
   no_map p m v = false≢true (sym m ∙ also_good v.0 p v.1.good v.1.reads)
 
-  exactly : (o : Outcome Answer (List ℕ)) → Way o → (p : Plan) → Ready t before p → ((n : ℕ) × (o.told ≡ Written n)) ↔ SomeMap p
+  exactly : (o : Outcome (Result ℕ Refusal) (List ℕ)) → Way o → (p : Plan) → Ready t before p → ((n : ℕ) × (o.told ≡ Ok n)) ↔ SomeMap p
   exactly o (formless none) p r = absurd (none p r.0)
   exactly o (short q f s) p r = absurd (let e = ap room_for (one_plan p q r.0 f) in omega (arith, r.1))
   exactly o (bad q f m) p r = (λ w. absurd (not_written refl w.1), λ v. absurd (no_map q m (subst SomeMap (one_plan p q r.0 f.0) v)))
   exactly o (good q f m) p r =
       (λ w. subst SomeMap (one_plan q p f.0 r.0) (image_of q, good_valid q m), λ v. (length (image_of q), refl))
 
-  abbrev RefusedWith : (n : ℕ) → Type 0
-  RefusedWith n = ((n ≡ 16) × Sixteen t before) ⊎ ((n ≡ 1) × One t before)
+  abbrev RefusedWith : (r : Refusal) → Type 0
+  RefusedWith r = ((r ≡ BadText) × Sixteen t before) ⊎ ((r ≡ BadMap) × One t before)
 
   -- 16 and 1 are not both given
   not_one : (p : Plan) → Ready t before p → Sixteen t before → ⊥
   not_one p r (inl none) = none p r.0
   not_one p r (inr (q, f, s)) = let e = ap room_for (one_plan p q r.0 f) in omega (arith, r.1)
 
-  number : {n m : ℕ} → Refused n ≡ Refused m → m ≡ n
-  number e = cc
+  same : {r q : Refusal} → ◌≡◌ {A = Result ℕ Refusal} (Err r) (Err q) → q ≡ r
+  same e = cc
 
-  refused : (o : Outcome Answer (List ℕ)) → Way o → (n : ℕ) → (o.told ≡ Refused n) ↔ RefusedWith n
-  refused o (formless none) n = (
-    λ e. inl (number e, inl none),
-    λ w. ⊎_elim (λ (a : (n ≡ 16) × Sixteen t before). ap Refused (sym a.0))
-        (λ (a : (n ≡ 1) × One t before). absurd (none a.1.0 a.1.1.0)) w,
+  refused : (o : Outcome (Result ℕ Refusal) (List ℕ)) → Way o → (r : Refusal) → (o.told ≡ Err r) ↔ RefusedWith r
+  refused o (formless none) r = (
+    λ e. inl (same e, inl none),
+    λ w. ⊎_elim (λ (a : (r ≡ BadText) × Sixteen t before). ap Err (sym a.0))
+        (λ (a : (r ≡ BadMap) × One t before). absurd (none a.1.0 a.1.1.0)) w,
   )
-  refused o (short p f s) n = (
-    λ e. inl (number e, inr (p, f, s)),
-    λ w. ⊎_elim (λ (a : (n ≡ 16) × Sixteen t before). ap Refused (sym a.0))
-        (λ (a : (n ≡ 1) × One t before). absurd (not_one a.1.0 a.1.1 (inr (p, f, s)))) w,
+  refused o (short p f s) r = (
+    λ e. inl (same e, inr (p, f, s)),
+    λ w. ⊎_elim (λ (a : (r ≡ BadText) × Sixteen t before). ap Err (sym a.0))
+        (λ (a : (r ≡ BadMap) × One t before). absurd (not_one a.1.0 a.1.1 (inr (p, f, s)))) w,
   )
-  refused o (bad p r m) n = (
-    λ e. inr (number e, (p, r, no_map p m)),
-    λ w. ⊎_elim (λ (a : (n ≡ 16) × Sixteen t before). absurd (not_one p r a.1)) (λ (a : (n ≡ 1) × One t before). ap Refused (sym a.0)) w,
+  refused o (bad p h m) r = (
+    λ e. inr (same e, (p, h, no_map p m)),
+    λ w. ⊎_elim (λ (a : (r ≡ BadText) × Sixteen t before). absurd (not_one p h a.1)) (λ (a : (r ≡ BadMap) × One t before). ap Err (sym a.0)) w,
   )
-  refused o (good p r m) n = (
+  refused o (good p h m) r = (
     λ e. absurd (not_written e refl),
-    λ w. ⊎_elim (λ (a : (n ≡ 16) × Sixteen t before). absurd (not_one p r a.1))
-        (λ (a : (n ≡ 1) × One t before). absurd (a.1.2 (subst SomeMap (one_plan p a.1.0 r.0 a.1.1.0) (image_of p, good_valid p m)))) w,
+    λ w. ⊎_elim (λ (a : (r ≡ BadText) × Sixteen t before). absurd (not_one p h a.1))
+        (λ (a : (r ≡ BadMap) × One t before). absurd (a.1.2 (subst SomeMap (one_plan p a.1.0 h.0 a.1.1.0) (image_of p, good_valid p m)))) w,
   )
 
-  written : (o : Outcome Answer (List ℕ)) → Way o → (n : ℕ) → o.told ≡ Written n → (p : Plan) × Form t p × Image p before o.after n
+  written : (o : Outcome (Result ℕ Refusal) (List ℕ)) → Way o → (n : ℕ) → o.told ≡ Ok n → (p : Plan) × Form t p × Image p before o.after n
   written o (formless none) n e = absurd (not_written refl e)
   written o (short p f s) n e = absurd (not_written refl e)
   written o (bad p r m) n e = absurd (not_written refl e)
@@ -112,7 +112,7 @@ module _ (t before : List ℕ) where
         },
       )
 
-  unchanged : (o : Outcome Answer (List ℕ)) → Way o → (n : ℕ) → o.told ≡ Refused n → o.after ≡ before
+  unchanged : (o : Outcome (Result ℕ Refusal) (List ℕ)) → Way o → (r : Refusal) → o.told ≡ Err r → o.after ≡ before
   unchanged o (formless none) n e = refl
   unchanged o (short p f s) n e = refl
   unchanged o (bad p r m) n e = refl

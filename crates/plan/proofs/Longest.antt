@@ -3,7 +3,9 @@
 use Rattle.std.specs.Prelude.{ℕ, suc, ◌+◌, ◌*◌, ◌≤◌, ◌<◌, ◌≡◌, true, false, List, [], ◌∷◌, length}
 use Rattle.std.proofs.Common.{ap, ⊎_elim, arith, length-append, lt-ltb}
 use Rattle.laws.specs.Tests.{decided}
-use Rattle.laws.specs.Refusals.{first_of}
+use Rattle.refusal.specs.Refusals.{first_of}
+use Rattle.refusal.specs.declared.Refusal.{Refusal}
+use Rattle.refusal.specs.declared.Refusal.TheVariants.{BadText}
 use Rattle.text.specs.Laws.{decimal_length}
 use Rattle.plan.specs.Form.{Plan, numbers_of, Small, Form}
 use Rattle.plan.specs.Reading.{has_form, plan_of}
@@ -24,9 +26,9 @@ text_most t p f =
     let all = flat_most 0 (numbers_of p) f.small in
     omega (arith, ap length f.is, ap length (text_is p), all, numbers_length p)
 
--- a longer text is refused with 16, whatever is made of a refusal and of an accepted text
-pub too_long : {A : Type 0} (t : List ℕ) (room : ℕ) → room < 8 + 8 * 17 → 396 < length t → (refuse : ℕ → A) (accepted : A)
-    → first_of refuse (writing_tests t room) accepted ≡ refuse 16
+-- a longer text is refused with 16 (`BadText`), whatever is made of a refusal and of an accepted text
+pub too_long : {A : Type 0} (t : List ℕ) (room : ℕ) → room < 8 + 8 * 17 → 396 < length t → (refuse : Refusal → A) (accepted : A)
+    → first_of refuse (writing_tests t room) accepted ≡ refuse BadText
 too_long t room m l refuse accepted =
     ⊎_elim
     (λ (f : has_form t ≡ true). rw (f, lt-ltb room (room_for (plan_of t)) (omega (arith, text_most t (plan_of t) (formed t f)))))

@@ -1,45 +1,54 @@
--- How the code keeps what it has read: a count, a value in which 65,536 stands for no digit yet, and as many numbers as a map can have.
--- The laws of one byte more. Assumes nothing.
+-- How the code reads a text: number after number, each with the byte behind it. It keeps how many they are, and as many of them as a map
+-- can have. Assumes nothing.
 -- The definitions stand in specs/Steps.antt.
-use Rattle.std.specs.Prelude.{ℕ, ◌+◌, ◌-◌, ◌*◌, ◌%◌, ◌≤◌, ◌<◌, ◌≡◌, refl, true, false, ◌&&◌, ◌||◌, not, length, get_or, take, drop, set, eqb, leb, ltb}
-use Rattle.std.proofs.Common.{sym, ◌∙◌, ⊎_elim, arith, add-one, length-append, length-set, take-append-drop, take_all, take-suc-set, ltb-false, eqb-true, lt-ltb, le-ltb, le-leb, eq-eqb, ne_eqb}
-use Rattle.std.proofs.Math.Path.{ap}
-use Rattle.std.proofs.Math.Bool.{and-false}
-use mathlib.Core.List.{List, [], ◌∷◌, ◌++◌, foldl, foldl-append}
-use Rattle.std.proofs.Math.Seq.{take-suc}
+use Rattle.std.specs.Prelude.{ℕ, ◌+◌, ◌-◌, ◌%◌, ◌≤◌, ◌<◌, ◌≡◌, refl, Bool, true, false, length, take, eqb, Some, None}
+use Rattle.std.specs.Bool.{then_some}
+use Rattle.std.proofs.Common.{sym, ap, ◌∙◌, ⊎_elim, arith, add-one, length-append, take_all, take-suc-set, lt-ltb, le-ltb, eq-eqb, ne_eqb, Bor}
+use Rattle.std.proofs.lemmas.Option.{none-some, same_Some}
 use Rattle.std.proofs.lemmas.List.{take-append-le}
-use Rattle.std.proofs.lemmas.Bool.{lt-leb, not-true, not-false}
-use Rattle.laws.specs.Tests.{lt_or_le, neither, cond_keeps}
-use Rattle.plan.specs.declared.Reading.TheVariants.{Whole, Formless}
-use Rattle.plan.specs.Reading.{is_digit, after, Progress, between, within, broken, step, read_of, numbers_in, whole}
-use Rattle.plan.proofs.Laws.{digit_range}
-use Rattle.plan.specs.Steps.{longer, kept, Keeps, Stands, reading_of}
+use mathlib.Core.List.{List, [], ◌∷◌, ◌++◌, foldl}
+use Rattle.laws.specs.Tests.{lt_or_le}
+use Rattle.plan.specs.Reading.{is_digit, after, between, within, broken, step, read_of}
+use Rattle.plan.specs.Steps.{longer, Numbered, kept, Keeps, Stands, reading_of}
 
--- ---- one byte more
+-- what a test's option tells
+pub some_told : (b : Bool) (x : ℕ) {w : ℕ} → Some w ≡ then_some b x → (b ≡ true) × (w ≡ x)
+some_told true x e = (refl, same_Some _ _ e)
+some_told false x e = absurd (none-some _ (sym e))
 
--- a value with one digit more, where that is at most 65,535: the value was not 0
-grown : (v w c : ℕ) → v ≤ 65535 → w ≡ longer v c → w ≤ 65535 → (ltb 0 v ≡ true) × (w ≡ v * 10 + (c - 48))
-grown v w c m q l =
-    let none = ne_eqb v 65536 (λ e. omega arith) in
-    ⊎_elim
-    (λ (z : v < 1). absurd (let e : w ≡ 65536 = q ∙ simp (none, eq-eqb v 0 (omega arith)) in omega arith))
-    (λ (z : 1 ≤ v). (lt-ltb 0 v z, q ∙ simp (none, ne_eqb v 0 (λ e. omega arith))))
-    (lt_or_le v 1)
+pub none_told : (b : Bool) (x : ℕ) → None ≡ then_some b x → b ≡ false
+none_told true x e = absurd (none-some _ e)
+none_told false x e = refl
 
--- where it is more, the value was 0 or the number is too large
-overgrown : (v w c : ℕ) → v ≤ 65535 → w ≡ longer v c → 65535 < w → (ltb 0 v && leb (v * 10 + (c - 48)) 65535) ≡ false
-overgrown v w c m q l =
-    let none = ne_eqb v 65536 (λ e. omega arith) in
-    ⊎_elim
-    (λ (z : v < 1). rw (le-ltb 0 v (omega arith)))
-    (λ (z : 1 ≤ v).
-    let e : w ≡ v * 10 + (c - 48) = q ∙ simp (none, ne_eqb v 0 (λ e. omega arith)) in
-    rw (lt-leb (v * 10 + (c - 48)) 65535 (omega arith)) (and-false (ltb 0 v)))
-    (lt_or_le v 1)
+-- ---- a number
 
-pub kept_length : (numbers : List ℕ) (count value : ℕ) → length (kept numbers count value) ≡ length numbers
-kept_length numbers count value =
-    cond_keeps (λ l. length l ≡ length numbers) (ltb count 66) (set numbers count value) numbers (λ y. length-set numbers count value) (λ n. refl)
+-- what is broken stays so
+broken_stays : (t : List ℕ) → foldl step broken t ≡ broken
+broken_stays [] = refl
+broken_stays (c ∷ t) = broken_stays t
+
+pub no_number : (first : ℕ) (t : List ℕ) → is_digit first ≡ false → Numbered first t None
+no_number first t e ended = rw e (broken_stays t)
+
+module _ (ended : List ℕ) (c : ℕ) (t : List ℕ) where
+  pub number_starts : is_digit c ≡ true → foldl step (between ended) (c ∷ t) ≡ foldl step (within ended (c - 48)) t
+  number_starts e = rw e
+
+  -- a digit goes on with a number, or breaks the form
+  pub number_goes_on : (v w : ℕ) → is_digit c ≡ true → Some w ≡ longer v c → foldl step (within ended v) (c ∷ t) ≡ foldl step (within ended w) t
+  number_goes_on v w e q = let told = some_told _ _ q in rw (e, told.0, told.1)
+
+  pub number_breaks : (v : ℕ) → is_digit c ≡ true → None ≡ longer v c → foldl step (within ended v) (c ∷ t) ≡ broken
+  number_breaks v e q = rw (e, none_told _ _ q) (broken_stays t)
+
+  -- the byte behind it ends it, or breaks the form
+  number_ended : (v : ℕ) → is_digit c ≡ false → c ≡ after (length ended) → foldl step (within ended v) (c ∷ t) ≡ foldl step (between (ended ++ (v ∷ []))) t
+  number_ended v e q = rw (e, eq-eqb c (after (length ended)) q)
+
+  not_ended : (v : ℕ) → is_digit c ≡ false → (c ≡ after (length ended) → ⊥) → foldl step (within ended v) (c ∷ t) ≡ broken
+  not_ended v e q = rw (e, ne_eqb c (after (length ended)) q) (broken_stays t)
+
+-- ---- the numbers of a text, one after the other
 
 -- one number more is kept, if there is a place for it
 keep_more : (ended numbers : List ℕ) (v : ℕ) → length numbers ≡ 66 → take (length ended) numbers ≡ take 66 ended
@@ -56,86 +65,35 @@ keep_more ended numbers v long h =
     rw (le-ltb (length ended) 66 l, all, take-append-le 66 ended (v ∷ []) l) (sym same ∙ h))
     (lt_or_le (length ended) 66)
 
-module _ (count value : ℕ) (numbers : List ℕ) (c : ℕ) where
-  -- a digit goes on with a number, or breaks the form
-  pub digit_stands : (s : Progress) (w : ℕ) → Stands s count value numbers → is_digit c ≡ true → w ≡ longer value c → w ≤ 65535
-      → Stands (step s c) count w numbers
-  digit_stands (between ended) w h e q l = simp e (h.0, q ∙ simp (eq-eqb value 65536 h.1), omega (arith, (digit_range c e).1), h.2)
-  digit_stands (within ended v) w h e q l =
-      let g = grown v w c h.2 (q ∙ ap (λ (x : ℕ). longer x c) h.1) l in
-      simp (e, g.0, le-leb (v * 10 + (c - 48)) 65535 (omega (arith, g.1))) (h.0, g.1, omega (arith, g.1), h.3)
-  digit_stands broken w h e q l = absurd h
-
-  pub digit_breaks : (s : Progress) (w : ℕ) → Stands s count value numbers → is_digit c ≡ true → w ≡ longer value c → 65535 < w
-      → step s c ≡ broken
-  digit_breaks (between ended) w h e q l =
-      absurd (let is : w ≡ c - 48 = q ∙ simp (eq-eqb value 65536 h.1) in omega (arith, (digit_range c e).1))
-  digit_breaks (within ended v) w h e q l = simp (e, overgrown v w c h.2 (q ∙ ap (λ (x : ℕ). longer x c) h.1) l)
-  digit_breaks broken w h e q l = absurd h
-
-  -- any other byte ends a number, or breaks the form
-  pub end_stands : (s : Progress) → length numbers ≡ 66 → Stands s count value numbers → is_digit c ≡ false → value ≤ 65535 → c ≡ after count
-      → Stands (step s c) (count + 1) 65536 (kept numbers count value)
-  end_stands (between ended) long h e l q = absurd (omega (arith, h.1))
-  end_stands (within ended v) long h e l q =
-      simp (e, eq-eqb c (after (length ended)) (q ∙ ap after h.0))
-      (rw (h.0, length-append ended (v ∷ [])), refl, rw (h.0, h.1) (keep_more ended numbers v long (rw h.0 at h.3)))
-  end_stands broken long h e l q = absurd h
-
-  pub end_breaks : (s : Progress) → Stands s count value numbers → is_digit c ≡ false
-      → (ltb 65535 value || not (eqb c (after count))) ≡ true → step s c ≡ broken
-  end_breaks (between ended) h e q = simp e
-  end_breaks (within ended v) h e q =
-      let fits : ltb 65535 value ≡ false = le-ltb 65535 value (omega (arith, h.1)) in
-      let differs : eqb c (after count) ≡ false = not-true _ (rw fits at q) in
-      simp (e, rw h.0 at differs)
-  end_breaks broken h e q = absurd h
-
--- no value is more than 65,536, and one that ends is at most 65,535
-pub value_most : (s : Progress) (count value : ℕ) (numbers : List ℕ) → Stands s count value numbers → value ≤ 65536
-value_most (between ended) count value numbers h = omega (arith, h.1)
-value_most (within ended v) count value numbers h = omega (arith, h.1, h.2)
-value_most broken count value numbers h = absurd h
-
-pub ended : (value c count : ℕ) → (ltb 65535 value || not (eqb c (after count))) ≡ false → (value ≤ 65535) × (c ≡ after count)
-ended value c count e =
-    let r = neither (ltb 65535 value) (not (eqb c (after count))) e in
-    (ltb-false _ _ r.0, eqb-true _ _ (not-false _ r.1))
-
--- ---- the bytes of a text, one after the other
-
-module _ (t : List ℕ) (k : ℕ) where
-  pub read_more : k < length t → read_of (take (k + 1) t) ≡ step (read_of (take k t)) (get_or t k 0)
-  unfolding read_of
-  read_more l = rw (add-one, take-suc t k 0 l) (foldl-append step (between []) (take k t) (get_or t k 0 ∷ []))
-
-  -- what is broken stays so
-  broken_stays : (u : List ℕ) → foldl step broken u ≡ broken
-  broken_stays [] = refl
-  broken_stays (c ∷ u) = broken_stays u
-
-  pub read_breaks : k < length t → step (read_of (take k t)) (get_or t k 0) ≡ broken → read_of t ≡ broken
-  unfolding read_of
-  read_breaks l e =
-      ap (λ (u : List ℕ). foldl step (between []) u) (sym (take-append-drop (k + 1) t)) ∙ foldl-append step (between []) (take (k + 1) t) (drop (k + 1) t)
-      ∙ ap (λ (s : Progress). foldl step s (drop (k + 1) t)) (read_more l ∙ e) ∙ broken_stays (drop (k + 1) t)
-
--- at the text's end
 module _ (t : List ℕ) where
-  pub formless : (numbers : List ℕ) → read_of t ≡ broken → (Formless ≡ reading_of t) × Keeps (read_of t) numbers
+  formless : (numbers : List ℕ) → read_of t ≡ broken → (None ≡ reading_of t) × Keeps (read_of t) numbers
   formless numbers e = rw e (refl, refl)
 
-  at_end : (s : Progress) (count value : ℕ) (numbers : List ℕ) → Stands s count value numbers
-      → ((eqb value 65536 && eqb (count % 4) 2) ≡ whole s) × (count ≡ length (numbers_in s)) × Keeps s numbers
-  at_end (between ended) count value numbers h = (rw (h.0, h.1), h.0, rw (← h.0) h.2)
-  at_end (within ended v) count value numbers h =
-      let no : eqb value 65536 ≡ false = ne_eqb value 65536 (λ e. omega (arith, e, h.1, h.2)) in
-      (rw no, h.0, rw (← h.0) h.3)
-  at_end broken count value numbers h = absurd h
+  pub stands_first : (numbers : List ℕ) → Stands t 0 t numbers
+  unfolding read_of
+  stands_first numbers = ([], refl, refl, refl)
 
-  module _ (count value : ℕ) (numbers : List ℕ) (h : Stands (read_of t) count value numbers) where
-    pub ends_whole : (eqb value 65536 && eqb (count % 4) 2) ≡ true → (Whole count ≡ reading_of t) × Keeps (read_of t) numbers
-    ends_whole e = let r = at_end (read_of t) count value numbers h in (rw (← r.0, e, r.1), r.2)
+  -- at the text's end
+  pub ends : (count : ℕ) (numbers : List ℕ) → Stands t count [] numbers → (then_some (eqb (count % 4) 2) count ≡ reading_of t) × Keeps (read_of t) numbers
+  ends count numbers (ended, c, k, r) = rw (r, ← c) (refl, k)
 
-    pub ends_formless : (eqb value 65536 && eqb (count % 4) 2) ≡ false → (Formless ≡ reading_of t) × Keeps (read_of t) numbers
-    ends_formless e = let r = at_end (read_of t) count value numbers h in (rw (← r.0, e), r.2)
+  -- a number more
+  module _ (count : ℕ) (numbers : List ℕ) (first : ℕ) (more : List ℕ) (s : Stands t count (first ∷ more) numbers) where
+    pub not_numbered : Numbered first more None → (None ≡ reading_of t) × Keeps (read_of t) numbers
+    not_numbered n = formless numbers (s.3 ∙ n s.0)
+
+    module _ (v : ℕ) (behind : Bor (List ℕ)) (n : Numbered first more (Some (v, behind))) where
+      pub cut_off : behind.now ≡ [] → (None ≡ reading_of t) × Keeps (read_of t) numbers
+      cut_off e = let r = s.3 ∙ n.2 s.0 in rw (r, e) (refl, rw (← s.1) s.2)
+
+      module _ (c : ℕ) (rest : List ℕ) (e : behind.now ≡ c ∷ rest) where
+        pub other_byte : (c ≡ after count → ⊥) → (None ≡ reading_of t) × Keeps (read_of t) numbers
+        other_byte q = formless numbers (s.3 ∙ n.2 s.0 ∙ rw e (not_ended s.0 c rest v (rw e at n.1) (λ is. q (is ∙ ap after (sym s.1)))))
+
+        pub stands_next : c ≡ after count → length numbers ≡ 66 → Stands t (count + 1) rest (kept numbers count v)
+        stands_next q long = (
+          s.0 ++ (v ∷ []),
+          rw s.1 (sym (length-append s.0 (v ∷ []))),
+          rw s.1 (keep_more s.0 numbers v long (rw s.1 at s.2)),
+          s.3 ∙ n.2 s.0 ∙ rw e (number_ended s.0 c rest v (rw e at n.1) (q ∙ ap after s.1)),
+        )

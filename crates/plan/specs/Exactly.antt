@@ -1,9 +1,10 @@
 -- Document 02, request P2, "Write the map", as one claim in the request's words: what is answered and written for every text and every
 -- buffer. Here is the claim. Assumes nothing.
 -- The theorems stand in proofs/Exactly.antt.
-use Rattle.std.specs.Prelude.{ℕ, ◌≤◌, ◌<◌, ◌≡◌, ◌⊎◌, ◌↔◌, List, length, take, drop}
+use Rattle.std.specs.Prelude.{ℕ, ◌≤◌, ◌<◌, ◌≡◌, ◌⊎◌, ◌↔◌, List, length, take, drop, Ok, Err}
+use Rattle.refusal.specs.declared.Refusal.{Refusal}
+use Rattle.refusal.specs.declared.Refusal.TheVariants.{BadMap, BadText}
 use Rattle.map.specs.Map.{header_of}
-use Rattle.plan.specs.declared.Answer.TheVariants.{Written, Refused}
 use Rattle.plan.specs.Form.{Plan, Form}
 use Rattle.plan.specs.Writing.{room_for, writing_of}
 use Rattle.plan.specs.Valid.{Valid}
@@ -41,10 +42,10 @@ pub record Claim (t before : List ℕ) : Type 0 where
   pub one_plan : (p q : Plan) → Form t p → Form t q → p ≡ q
   pub one_text : (u : List ℕ) (p : Plan) → Form t p → Form u p → t ≡ u
   -- "an image is written exactly when some valid map has those fields"
-  pub exactly : (p : Plan) → Ready t before p → ((n : ℕ) × ((writing_of t before).told ≡ Written n)) ↔ SomeMap p
+  pub exactly : (p : Plan) → Ready t before p → ((n : ℕ) × ((writing_of t before).told ≡ Ok n)) ↔ SomeMap p
   -- "Refusals, in this order"
-  pub refused : (n : ℕ) → ((writing_of t before).told ≡ Refused n) ↔ (((n ≡ 16) × Sixteen t before) ⊎ ((n ≡ 1) × One t before))
+  pub refused : (r : Refusal) → ((writing_of t before).told ≡ Err r) ↔ (((r ≡ BadText) × Sixteen t before) ⊎ ((r ≡ BadMap) × One t before))
   -- "The text becomes an image with E = 8, reading that image gives the same fields"; "nor any call past the image"
-  pub written : (n : ℕ) → (writing_of t before).told ≡ Written n → (p : Plan) × Form t p × Image p before (writing_of t before).after n
+  pub written : (n : ℕ) → (writing_of t before).told ≡ Ok n → (p : Plan) × Form t p × Image p before (writing_of t before).after n
   -- "A refusal writes nothing"
-  pub unchanged : (n : ℕ) → (writing_of t before).told ≡ Refused n → (writing_of t before).after ≡ before
+  pub unchanged : (r : Refusal) → (writing_of t before).told ≡ Err r → (writing_of t before).after ≡ before

@@ -4,7 +4,6 @@ pub mod Writing
 pub mod Laws
 pub mod Steps
 pub mod Images
-pub mod Answers
 pub mod Valid
 pub mod Exactly
 pub mod Vectors

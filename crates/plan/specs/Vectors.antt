@@ -1,26 +1,26 @@
 -- Texts and their answers, by computation from the definitions. Assumes nothing.
-use Rattle.std.specs.Prelude.{ℕ, ◌≡◌, refl, length, replicate}
+use Rattle.std.specs.Prelude.{ℕ, ◌≡◌, refl, length, replicate, Result, Ok, Err}
 use mathlib.Core.List.{List, [], ◌∷◌, ◌++◌, map, flat_map}
 use Rattle.laws.specs.Tests.{every}
 use Rattle.laws.specs.Below.{all_below}
+use Rattle.refusal.specs.declared.Refusal.{Refusal}
+use Rattle.refusal.specs.declared.Refusal.TheVariants.{BadMap, BadText}
 use Rattle.context.specs.State.{outcome}
 use Rattle.endian.specs.Endian.{u16_at}
 use Rattle.text.specs.Text.{text}
 use Rattle.map.specs.Map.{header_good, filler_good, entry_good, place_good, map_good}
 use Rattle.map.specs.Image.{image}
 use Rattle.map.specs.Vectors.{two}
-use Rattle.plan.specs.declared.Answer.{Answer}
-use Rattle.plan.specs.declared.Answer.TheVariants.{Written, Refused}
 use Rattle.plan.specs.Reading.{read_of, has_form, plan_of}
 use Rattle.plan.specs.Writing.{image_of, writing_of}
 
 -- the small drive's map, in the front of a buffer that holds three bytes more
-small : writing_of (text "12 60\n0 6 0 7\n6 6 1 0\n") (replicate 27 9) ≡ outcome (Written 24) (image 2 12 60 8 [] two ++ (9 ∷ 9 ∷ 9 ∷ []))
+small : writing_of (text "12 60\n0 6 0 7\n6 6 1 0\n") (replicate 27 9) ≡ outcome (Ok 24) (image 2 12 60 8 [] two ++ (9 ∷ 9 ∷ 9 ∷ []))
 unfolding writing_of has_form plan_of read_of image_of flat_map map_good every header_good filler_good entry_good place_good all_below u16_at
 small = refl
 
 -- what is answered with so much room
-abbrev told : (room : ℕ) (t : List ℕ) → Answer
+abbrev told : (room : ℕ) (t : List ℕ) → Result ℕ Refusal
 told room t = (writing_of t (replicate room 9)).told
 
 -- no form: nothing at all, no line feed at the end, one too many, one of Windows, another at the end of the first line, a space too many
@@ -31,7 +31,7 @@ formless :
     ∷ text "12  60\n0 6 0 7\n" ∷ text " 12 60\n0 6 0 7\n" ∷ text "12 60 \n0 6 0 7\n" ∷ text "12 60\n0 06 0 7\n" ∷ text "12 60\n00 6 0 7\n"
     ∷ text "12 60\n65536 6 0 7\n" ∷ text "12 60\n100000 6 0 7\n" ∷ text "12 60\n0 6 0\n" ∷ text "12\n0 6 0 7\n" ∷ text "12 60\n0 6 0 7 0\n"
     ∷ text "12 60\n-0 6 0 7\n" ∷ text "12\t60\n0 6 0 7\n" ∷ [])
-    ≡ replicate 18 (Refused 16)
+    ≡ replicate 18 (Err BadText)
 unfolding writing_of has_form read_of
 formless = refl
 
@@ -41,7 +41,7 @@ rules :
     map (told 136)
     (text "12 60\n" ∷ text "12 60\n0 6 300 7\n" ∷ text "12 60\n0 6 256 7\n" ∷ text "12 60\n0 6 0 256\n" ∷ text "65535 65535\n65535 65535 65535 65535\n"
     ∷ text "60 12\n0 6 0 7\n" ∷ text "12 60\n6 6 1 0\n0 6 0 7\n" ∷ [])
-    ≡ replicate 7 (Refused 1)
+    ≡ replicate 7 (Err BadMap)
 unfolding writing_of has_form plan_of read_of image_of flat_map map_good every header_good filler_good entry_good place_good all_below u16_at
 rules = refl
 
@@ -49,7 +49,7 @@ rules = refl
 guides :
     map (told 136)
     (text "12 60\n0 6 0 15\n6 6 1 9\n" ∷ text "12 60\n0 6 0 11\n" ∷ text "12 60\n0 6 0 8\n" ∷ text "12 60\n0 6 2 8\n" ∷ text "12 60\n0 6 2 9\n" ∷ [])
-    ≡ Written 24 ∷ Written 16 ∷ replicate 3 (Refused 1)
+    ≡ Ok 24 ∷ Ok 16 ∷ replicate 3 (Err BadMap)
 unfolding writing_of has_form plan_of read_of image_of flat_map map_good every header_good filler_good entry_good place_good all_below u16_at
 guides = refl
 
@@ -58,7 +58,7 @@ rooms :
     map (λ (r : ℕ × List ℕ). told r.0 r.1)
     ((23, text "12 60\n0 6 0 7\n6 6 1 0\n") ∷ (0, text "12 60\n0 6 0 7\n") ∷ (16, text "12 60\n0 6 0 7\n") ∷ (7, text "12 60\n") ∷ (8, text "12 60\n")
     ∷ (15, text "12 60\n0 6 9 9\n") ∷ [])
-    ≡ Refused 16 ∷ Refused 16 ∷ Written 16 ∷ Refused 16 ∷ Refused 1 ∷ Refused 16 ∷ []
+    ≡ Err BadText ∷ Err BadText ∷ Ok 16 ∷ Err BadText ∷ Err BadMap ∷ Err BadText ∷ []
 unfolding writing_of has_form plan_of read_of image_of flat_map map_good every header_good filler_good entry_good place_good all_below u16_at
 rooms = refl
 
@@ -68,7 +68,7 @@ lines count line = flat_map (λ (x : List ℕ). x) (replicate count line)
 
 -- seventeen lines, with the room and one byte short of it
 counts : map (told 144) ((text "12 60\n" ++ lines 17 (text "0 4 0 0\n")) ∷ []) ++ map (told 143) ((text "12 60\n" ++ lines 17 (text "0 4 0 0\n")) ∷ [])
-    ≡ Refused 1 ∷ Refused 16 ∷ []
+    ≡ Err BadMap ∷ Err BadText ∷ []
 unfolding writing_of has_form plan_of read_of image_of flat_map map_good every header_good filler_good entry_good place_good all_below u16_at
 counts = refl
 

@@ -1,7 +1,8 @@
 -- The fields of the small drive's map, by computation: both partitions, one past them, and a bad map. Assumes nothing.
-use Rattle.std.specs.Prelude.{◌≡◌, refl, [], ◌∷◌}
+use Rattle.std.specs.Prelude.{◌≡◌, refl, [], ◌∷◌, Ok, Err}
 use Rattle.laws.specs.Tests.{every}
 use Rattle.laws.specs.Below.{all_below}
+use Rattle.refusal.specs.declared.Refusal.TheVariants.{BadMap, NotThere}
 use Rattle.endian.specs.Endian.{u16_at}
 use Rattle.map.specs.Map.{header_good, filler_good, entry_good, place_good, map_good}
 use Rattle.map.specs.Image.{image}
@@ -9,7 +10,6 @@ use Rattle.map.specs.Vectors.{two}
 use Rattle.map.specs.declared.Header.{Header}
 use Rattle.map.specs.declared.Entry.{Entry}
 use Rattle.reader.specs.Reader.{both_of, reading_of}
-use Rattle.reader.specs.declared.Reading.TheVariants.{Partition, Refused}
 
 -- "P = 2, C = 12, B = 60, E = 8"
 abbrev header : Header
@@ -24,6 +24,6 @@ software = record { first = 6; n = 6; kind = 1; flags = 0 }
 
 small_drive :
     reading_of (image 2 12 60 8 [] two) 0 ∷ reading_of (image 2 12 60 8 [] two) 1 ∷ reading_of (image 2 12 60 8 [] two) 2 ∷ reading_of (image 2 12 65 8 [] two) 2 ∷ []
-    ≡ Partition (both_of header slot) ∷ Partition (both_of header software) ∷ Refused 7 ∷ Refused 1 ∷ []
+    ≡ Ok (both_of header slot) ∷ Ok (both_of header software) ∷ Err NotThere ∷ Err BadMap ∷ []
 unfolding map_good every header_good filler_good entry_good place_good all_below u16_at
 small_drive = refl

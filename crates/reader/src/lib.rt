@@ -1,7 +1,8 @@
 // The map reader: it borrows a map image and answers the image's fields in place, without copying
 // it. Its methods take it apart and call the functions of `map`. `fields_of` has plain parameters, and
 // `read_partition` is the entry point: it refuses a bad map and a partition that is not there. The
-// definitions are in `specs/Reader`. It rests on `map`, and below it on `endian` and `laws`.
+// definitions are in `specs/Reader`. It rests on `map` and `refusal`, and below them on `endian` and
+// `laws`.
 #![tactic(auto)]
 
 ghost use Rattle.std.specs.Prelude.{◌≡◌};
@@ -9,6 +10,7 @@ ghost use Rattle.map.specs.Map.{header_of, entry_of};
 ghost use Rattle.reader.specs.Reader.{both_of, fields_of, reading_of};
 
 use map::{Entry, Header};
+use refusal::Refusal;
 
 // A borrowed map image.
 #[derive(Clone, Copy)]
@@ -21,13 +23,6 @@ pub struct MapReader<'a> {
 pub struct Fields {
     pub header: Header,
     pub entry: Entry,
-}
-
-// A partition's fields, or the refusal's number.
-#[derive(Clone, Copy)]
-pub enum Reading {
-    Partition(Fields),
-    Refused(u32),
 }
 
 impl<'a> MapReader<'a> {
@@ -72,16 +67,15 @@ pub fn fields_of(image: &[u8], i: u32) -> Fields
 }
 
 // The fields of partition `i`: refusals 1 and 7.
-pub fn read_partition(image: &[u8], i: u32) -> Reading
+pub fn read_partition(image: &[u8], i: u32) -> Result<Fields, Refusal>
     ensures { result ≡ reading_of image.now i }
 {
     if !map::is_good(image) {
-        return Reading::Refused(1);
+        return Err(Refusal::BadMap);
     }
     let fields = fields_of(image, i);
-    let header = fields.header;
-    if (header.partitions as u32) <= i {
-        return Reading::Refused(7);
+    if u32::from(fields.header.partitions) <= i {
+        return Err(Refusal::NotThere);
     }
-    Reading::Partition(fields)
+    Ok(fields)
 }

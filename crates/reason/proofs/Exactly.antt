@@ -1,7 +1,7 @@
 -- Document 02, request P1: "Each is given exactly when it holds, and none when the HEK is available". Here is the proof of the claim: when each reason
 -- holds, in the request's words over the definitions of slot and state, and that it is given exactly then. Assumes nothing.
 -- The definitions stand in specs/Exactly.antt.
-use Rattle.std.specs.Prelude.{ℕ, ◌+◌, ◌*◌, ◌≤◌, ◌<◌, ◌≡◌, refl, ◌⊎◌, ◌↔◌, Bool, cond, List, length}
+use Rattle.std.specs.Prelude.{ℕ, ◌+◌, ◌*◌, ◌≤◌, ◌<◌, ◌≡◌, refl, ◌⊎◌, ◌↔◌, Bool, cond, List, length, Result, Ok, Err}
 use Rattle.std.proofs.Common.{sym, subst, ◌∙◌, inl, inr, ⊎_elim, arith, length-take}
 use Rattle.std.proofs.Math.Path.{ap}
 use Rattle.std.proofs.Math.Bool.{true, false, not}
@@ -10,6 +10,8 @@ use borrow.Author.Tests.{ltb-true, ltb-false, lt-ltb, le-ltb, not-true, not-fals
 use Rattle.laws.specs.Tests.{cond_keeps}
 use Rattle.laws.specs.Below.{First}
 use Rattle.laws.proofs.Below.{first_tells, first_is, all_at, all_fails, all_holds, fails_at}
+use Rattle.refusal.specs.declared.Refusal.{Refusal}
+use Rattle.refusal.specs.declared.Refusal.TheVariants.{BadMap, BadLent}
 use Rattle.context.specs.Laws.{part_at}
 use Rattle.map.specs.Map.{header_of, entry_of, map_good}
 use Rattle.fuse.specs.Fuse.{ones_of}
@@ -21,7 +23,7 @@ use Rattle.drive.specs.declared.ActiveSlot.{ActiveSlot}
 use Rattle.drive.specs.declared.ActiveSlot.TheVariants.{Programmed as ProgrammedSlot, Blank as BlankSlot, Torn as TornSlot, Absent}
 use Rattle.drive.specs.Active.{Active, ErasedBelow, Means, active_means, active_is, means_active, available_tells}
 use Rattle.reason.specs.declared.Reason.{Reason}
-use Rattle.reason.specs.declared.Reason.TheVariants.{Available, NoSlot, AllErased, Blank, Torn, Refused}
+use Rattle.reason.specs.declared.Reason.TheVariants.{Available, NoSlot, AllErased, Blank, Torn}
 use Rattle.reason.specs.Reason.{not_slot, no_slot, torn_reason, reason_by, reason_in, reason_of}
 use Rattle.reason.proofs.Laws.{some_short, by_slot}
 use Rattle.reason.specs.Exactly.{pair_in, FirstShort, Holds, Exactly}
@@ -99,7 +101,6 @@ module _ (image cells : List ℕ) where
   only AllErased (some, erased) = absent false (all_fails (not_slot image) _ some.0 some.1 (ap not some.2)) erased
   only (Blank i) a = by_slot image cells (BlankSlot i) (means_active image cells (BlankSlot i) a)
   only (Torn i cell ones) (a, f) = pair_is image cells i f ∙ by_slot image cells (TornSlot i) (means_active image cells (TornSlot i) a)
-  only (Refused n) e = absurd e
 
   -- the status line `hek` and the reason never contradict each other: no reason is given where, by document 01, "The HEK is available"
   pub hek_agrees : (available (active_slot image cells) ≡ true) ↔ (reason_in image cells ≡ Available)
@@ -108,21 +109,25 @@ module _ (image cells : List ℕ) where
     λ e. let a = subst (Holds image cells) e holds in rw (← active_is image cells a.partition ProgrammedState refl a.active),
   )
 
--- a refusal by its two tests, where the reason is none
-refused_by : (good whole : Bool) (n : ℕ) (r : Reason) → (r ≡ Refused n → ⊥) → cond (not good) (Refused 1) (cond (not whole) (Refused 2) r) ≡ Refused n
-    → ((n ≡ 1) × (good ≡ false)) ⊎ ((n ≡ 2) × (good ≡ true) × (whole ≡ false))
-refused_by false whole n r o e = inl (cc, refl)
-refused_by true false n r o e = inr (cc, refl, refl)
-refused_by true true n r o e = absurd (o e)
+-- a refusal by its two tests
+refused_by : (good whole : Bool) (r : Refusal) (reason : Reason) → cond (not good) (Err BadMap) (cond (not whole) (Err BadLent) (Ok reason)) ≡ Err r
+    → ((r ≡ BadMap) × (good ≡ false)) ⊎ ((r ≡ BadLent) × (good ≡ true) × (whole ≡ false))
+refused_by false whole r reason e = inl (cc, refl)
+refused_by true false r reason e = inr (cc, refl, refl)
+refused_by true true r reason e = let z : ◌≡◌ {A = ℕ} 0 1 = cc in absurd (omega arith)
+
+-- a reason that is given
+the_reason : {a b : Reason} → ◌≡◌ {A = Result Reason Refusal} (Ok a) (Ok b) → a ≡ b
+the_reason e = cc
 
 pub exactly : (image cells marks : List ℕ) → Exactly image cells marks
 exactly image cells marks = record {
-  refused = λ n. (
-    (λ e. refused_by (map_good image) (whole_arrays image cells marks) n (reason_in image cells) (λ r. subst (Holds image cells) r (holds image cells)) e),
+  refused = λ r. (
+    (λ e. refused_by (map_good image) (whole_arrays image cells marks) r (reason_in image cells) e),
     λ h. ⊎_elim (λ a. rw (a.1, a.0)) (λ b. rw (b.1, b.2, b.0)) h,
   );
   given = λ good whole reason.
-      let is : reason_of image cells marks ≡ reason_in image cells = rw (good, whole) in
-      ((λ e. subst (Holds image cells) (sym is ∙ e) (holds image cells)), λ h. is ∙ sym (only image cells reason h));
+      let is : reason_of image cells marks ≡ Ok (reason_in image cells) = rw (good, whole) in
+      ((λ e. subst (Holds image cells) (the_reason (sym is ∙ e)) (holds image cells)), λ h. is ∙ ap Ok (sym (only image cells reason h)));
   one = (reason_in image cells, holds image cells, only image cells);
 }

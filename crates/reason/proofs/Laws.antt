@@ -1,8 +1,9 @@
 -- The laws of a reason, at what was read of the drive: a slot's test, a torn slot's pair, and the refusals. Assumes nothing.
-use Rattle.std.specs.Prelude.{ℕ, ◌+◌, ◌≤◌, ◌<◌, ◌≡◌, refl, Bool, true, not, List, [], length}
+use Rattle.std.specs.Prelude.{ℕ, ◌+◌, ◌≤◌, ◌<◌, ◌≡◌, refl, Bool, true, not, List, [], length, Ok, Err}
 use Rattle.std.proofs.Common.{sym, subst, ◌∙◌, arith, length-take}
 use Rattle.std.proofs.Math.Path.{ap}
-use Rattle.laws.specs.Refusals.{GivenFirst, given_first, GivenLowest, lowest_tells}
+use Rattle.refusal.specs.Refusals.{GivenFirst, given_first, GivenLowest, lowest_tells}
+use Rattle.refusal.specs.declared.Refusal.{Refusal}
 use Rattle.map.specs.declared.Header.{Header}
 use Rattle.map.specs.declared.Entry.{Entry}
 use Rattle.map.specs.Map.{header_of, entry_of, slot, map_good}
@@ -16,11 +17,10 @@ use Rattle.partition.proofs.Marked.{torn_within}
 use Rattle.drive.specs.Drive.{drive_tests, check_of, cells_of, survey_at, active_slot}
 use Rattle.drive.specs.declared.ActiveSlot.{ActiveSlot}
 use Rattle.drive.specs.declared.ActiveSlot.TheVariants.{Torn as TornSlot}
-use Rattle.drive.specs.declared.Check.TheVariants.{Ready, Refused as Bad}
 use Rattle.drive.specs.Laws.{check_refused, check_passed}
 use Rattle.drive.specs.Active.{Active, Means, active_means}
 use Rattle.reason.specs.declared.Reason.{Reason}
-use Rattle.reason.specs.declared.Reason.TheVariants.{Torn, Refused}
+use Rattle.reason.specs.declared.Reason.TheVariants.{Torn}
 use Rattle.reason.specs.Reason.{not_slot, torn_reason, reason_by, reason_in, reason_of}
 
 -- the test of partition i
@@ -71,14 +71,14 @@ module _ (image cells : List ℕ) where
 
 module _ (image cells marks : List ℕ) where
   -- "Checked in ascending order; the lowest that applies is given, and none is given otherwise"
-  pub reason_lowest : GivenLowest Refused (drive_tests image cells marks) (reason_in image cells) (reason_of image cells marks)
-  reason_lowest = lowest_tells Refused (reason_in image cells) 1 (drive_tests image cells marks) refl
+  pub reason_lowest : GivenLowest Err (drive_tests image cells marks) (Ok (reason_in image cells)) (reason_of image cells marks)
+  reason_lowest = lowest_tells Err (Ok (reason_in image cells)) 1 (drive_tests image cells marks) refl
 
-  pub reason_first : GivenFirst Refused (drive_tests image cells marks) (reason_in image cells) (reason_of image cells marks)
-  reason_first = given_first Refused (reason_in image cells) (drive_tests image cells marks)
+  pub reason_first : GivenFirst Err (drive_tests image cells marks) (Ok (reason_in image cells)) (reason_of image cells marks)
+  reason_first = given_first Err (Ok (reason_in image cells)) (drive_tests image cells marks)
 
-  pub reason_refused : {n : ℕ} → Bad n ≡ check_of image cells marks → Refused n ≡ reason_of image cells marks
-  reason_refused e = sym (check_refused Refused [] (reason_in image cells) image cells marks _ e)
+  pub reason_refused : {r : Refusal} → Err r ≡ check_of image cells marks → Err r ≡ reason_of image cells marks
+  reason_refused e = sym (check_refused Err [] (Ok (reason_in image cells)) image cells marks _ e)
 
-  pub reason_given : {header : Header} {r : Reason} → Ready header ≡ check_of image cells marks → r ≡ reason_in image cells → r ≡ reason_of image cells marks
-  reason_given e q = q ∙ sym (check_passed Refused [] (reason_in image cells) image cells marks _ e)
+  pub reason_given : {header : Header} {r : Reason} → Ok header ≡ check_of image cells marks → r ≡ reason_in image cells → Ok r ≡ reason_of image cells marks
+  reason_given e q = ap Ok q ∙ sym (check_passed Err [] (Ok (reason_in image cells)) image cells marks _ e)

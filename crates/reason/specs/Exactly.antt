@@ -1,8 +1,10 @@
 -- Document 02, request P1: "Each is given exactly when it holds, and none when the HEK is available". Here is the claim: when each reason
 -- holds, in the request's words over the definitions of slot and state, and that it is given exactly then. Assumes nothing.
 -- The theorems stand in proofs/Exactly.antt.
-use Rattle.std.specs.Prelude.{ℕ, ◌+◌, ◌*◌, ◌≤◌, ◌<◌, ◌≡◌, ◌⊎◌, ◌↔◌, List}
+use Rattle.std.specs.Prelude.{ℕ, ◌+◌, ◌*◌, ◌≤◌, ◌<◌, ◌≡◌, ◌⊎◌, ◌↔◌, List, Ok, Err}
 use Rattle.std.proofs.Math.Bool.{true, false}
+use Rattle.refusal.specs.declared.Refusal.{Refusal}
+use Rattle.refusal.specs.declared.Refusal.TheVariants.{BadMap, BadLent}
 use Rattle.map.specs.Map.{header_of, entry_of, slot, map_good}
 use Rattle.fuse.specs.Fuse.{held_at, ones_of}
 use Rattle.partition.specs.Partition.{indicator}
@@ -10,7 +12,7 @@ use Rattle.partition.specs.declared.State.TheVariants.{Blank as BlankState, Torn
 use Rattle.drive.specs.Drive.{whole_arrays, cells_of}
 use Rattle.drive.specs.Active.{Active, ErasedBelow, Available as Hek}
 use Rattle.reason.specs.declared.Reason.{Reason}
-use Rattle.reason.specs.declared.Reason.TheVariants.{Available, NoSlot, AllErased, Blank, Torn, Refused}
+use Rattle.reason.specs.declared.Reason.TheVariants.{Available, NoSlot, AllErased, Blank, Torn}
 use Rattle.reason.specs.Reason.{reason_of}
 
 -- ---- the claim
@@ -42,16 +44,14 @@ Holds image cells (Blank i) = Active image cells i BlankState
 Holds image cells (Torn i cell ones) = Active image cells i TornState × FirstShort image cells i cell ones
 -- "none when the HEK is available": the first slot that is not erased is programmed
 Holds image cells Available = Hek image cells
--- a drive that is not refused gets no refusal
-Holds image cells (Refused n) = ⊥
 
 -- "Refusals: 1, 2"
-abbrev pub RefusedWith : (image cells marks : List ℕ) (n : ℕ) → Type 0
-RefusedWith image cells marks n =
-    ((n ≡ 1) × (map_good image ≡ false)) ⊎ ((n ≡ 2) × (map_good image ≡ true) × (whole_arrays image cells marks ≡ false))
+abbrev pub RefusedWith : (image cells marks : List ℕ) (r : Refusal) → Type 0
+RefusedWith image cells marks r =
+    ((r ≡ BadMap) × (map_good image ≡ false)) ⊎ ((r ≡ BadLent) × (map_good image ≡ true) × (whole_arrays image cells marks ≡ false))
 
 -- "Each is given exactly when it holds"; and one always holds, and only one
 pub record Exactly (image cells marks : List ℕ) : Type 0 where
-  pub refused : (n : ℕ) → (reason_of image cells marks ≡ Refused n) ↔ RefusedWith image cells marks n
-  pub given : map_good image ≡ true → whole_arrays image cells marks ≡ true → (reason : Reason) → (reason_of image cells marks ≡ reason) ↔ Holds image cells reason
+  pub refused : (r : Refusal) → (reason_of image cells marks ≡ Err r) ↔ RefusedWith image cells marks r
+  pub given : map_good image ≡ true → whole_arrays image cells marks ≡ true → (reason : Reason) → (reason_of image cells marks ≡ Ok reason) ↔ Holds image cells reason
   pub one : (reason : Reason) × Holds image cells reason × ((other : Reason) → Holds image cells other → other ≡ reason)

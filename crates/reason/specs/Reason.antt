@@ -1,7 +1,8 @@
 -- Document 02, request P1: why a drive offers no HEK. Assumes nothing.
-use Rattle.std.specs.Prelude.{ℕ, ◌+◌, Bool, cond, not, List}
+use Rattle.std.specs.Prelude.{ℕ, ◌+◌, Bool, cond, not, List, Result, Ok, Err}
 use Rattle.laws.specs.Below.{all_below}
-use Rattle.laws.specs.Refusals.{first_of}
+use Rattle.refusal.specs.Refusals.{first_of}
+use Rattle.refusal.specs.declared.Refusal.{Refusal}
 use Rattle.map.specs.Map.{header_of, entry_of, slot}
 use Rattle.partition.specs.Partition.{torn_pair}
 use Rattle.partition.specs.declared.ShortPair.{ShortPair}
@@ -9,7 +10,7 @@ use Rattle.drive.specs.Drive.{drive_tests, cells_of, active_slot}
 use Rattle.drive.specs.declared.ActiveSlot.{ActiveSlot}
 use Rattle.drive.specs.declared.ActiveSlot.TheVariants.{Programmed as ProgrammedSlot, Blank as BlankSlot, Torn as TornSlot, Absent}
 use Rattle.reason.specs.declared.Reason.{Reason}
-use Rattle.reason.specs.declared.Reason.TheVariants.{Available, NoSlot, AllErased, Blank, Torn, Refused}
+use Rattle.reason.specs.declared.Reason.TheVariants.{Available, NoSlot, AllErased, Blank, Torn}
 
 -- partition i is no slot
 unfoldable pub not_slot : (image : List ℕ) (i : ℕ) → Bool
@@ -40,5 +41,5 @@ unfoldable pub reason_in : (image cells : List ℕ) → Reason
 reason_in image cells = reason_by image cells (active_slot image cells)
 
 -- "Refusals: 1, 2": the lowest that applies, else the reason
-abbrev pub reason_of : (image cells marks : List ℕ) → Reason
-reason_of image cells marks = first_of Refused (drive_tests image cells marks) (reason_in image cells)
+abbrev pub reason_of : (image cells marks : List ℕ) → Result Reason Refusal
+reason_of image cells marks = first_of Err (drive_tests image cells marks) (Ok (reason_in image cells))

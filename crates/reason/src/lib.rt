@@ -3,19 +3,19 @@
 // any bytes and any lengths and is lent nothing to change; `reason_in` is for callers that have judged
 // the drive. The definitions are in `specs/Reason`, the laws in `proofs/Laws`, and that each reason is
 // given exactly when it holds in `specs/Exactly`, proved in `proofs/Exactly`. It rests on `drive`,
-// `map` and `partition`, and below them on `cache`, `context`, `endian`, `fuse` and `laws`.
+// `map`, `partition` and `refusal`, and below them on `cache`, `context`, `endian`, `fuse` and `laws`.
 #![tactic(auto)]
 
 ghost use Rattle.std.specs.Prelude.{◌≡◌, ◌<◌};
 ghost use Rattle.map.specs.Map.{header_of};
-ghost use Rattle.drive.specs.Drive.{Whole};
 ghost use Rattle.drive.specs.Active.{Active};
 ghost use Rattle.partition.specs.declared.State.TheVariants.{Torn};
 ghost use Rattle.reason.specs.Reason.{no_slot, torn_reason, reason_in, reason_of};
 
-use drive::{ActiveSlot, Check};
+use drive::{ActiveSlot, Drive};
+use refusal::Refusal;
 
-// Why no HEK is offered, or that it is available, or the refusal's number. The cell is the first of
+// Why no HEK is offered, or that it is available. The cell is the first of
 // the torn slot's first short pair, counted in the whole array; the ones are that pair's.
 #[derive(Clone, Copy)]
 pub enum Reason {
@@ -30,34 +30,29 @@ pub enum Reason {
         cell: u32,
         ones: u32,
     },
-    Refused(u32),
 }
 
 // Whether no partition of the map is a slot.
 fn has_no_slot(image: &[u8]) -> bool
     ensures { result ≡ no_slot image.now }
 {
-    let header = map::read_header(image);
-    let partitions = header.partitions as u32;
-    let mut i: u32 = 0;
-    while i < partitions {
+    let partitions = map::read_header(image).partitions as u32;
+    for i in 0..partitions {
         if map::is_slot(map::read_entry(image, i)) {
             return false;
         }
-        i += 1;
     }
     true
 }
 
 // The reason that a torn slot in partition `i` gives.
-fn torn_reason(image: &[u8], cells: &[u32], i: u32) -> Reason
-    requires { Whole image.now cells.now × Active image.now cells.now i Torn }
-    ensures { result ≡ torn_reason image.now cells.now i }
+fn torn_reason(drive: Drive, i: u32) -> Reason
+    requires { Active drive.image.now drive.cells.now i Torn }
+    ensures { result ≡ torn_reason drive.entry.image.now drive.entry.cells.now i }
 {
-    let header = map::read_header(image);
-    let entry = map::read_entry(image, i);
-    let part = drive::part_of(image, cells, i);
-    let pair = partition::torn_pair(part, header.bound as u64);
+    let header = map::read_header(drive.image);
+    let entry = map::read_entry(drive.image, i);
+    let pair = partition::torn_pair(drive.part(i), header.bound as u64);
     Reason::Torn {
         partition: i,
         cell: entry.first as u32 + pair.cell as u32,
@@ -66,16 +61,15 @@ fn torn_reason(image: &[u8], cells: &[u32], i: u32) -> Reason
 }
 
 // The reason of a drive that was judged.
-pub fn reason_in(image: &[u8], cells: &[u32]) -> Reason
-    requires { Whole image.now cells.now }
-    ensures { result ≡ reason_in image.now cells.now }
+pub fn reason_in(drive: Drive) -> Reason
+    ensures { result ≡ reason_in drive.entry.image.now drive.entry.cells.now }
 {
-    match drive::active_in(image, cells) {
+    match drive.active_slot() {
         ActiveSlot::Programmed(_) => Reason::Available,
         ActiveSlot::Blank(i) => Reason::Blank { partition: i },
-        ActiveSlot::Torn(i) => torn_reason(image, cells, i),
+        ActiveSlot::Torn(i) => torn_reason(drive, i),
         ActiveSlot::Absent => {
-            if has_no_slot(image) {
+            if has_no_slot(drive.image) {
                 Reason::NoSlot
             } else {
                 Reason::AllErased
@@ -85,11 +79,9 @@ pub fn reason_in(image: &[u8], cells: &[u32]) -> Reason
 }
 
 // The reason of a drive: refusals 1 and 2 in this order.
-pub fn find_reason(image: &[u8], cells: &[u32], marks: &[u32]) -> Reason
+pub fn find_reason(image: &[u8], cells: &[u32], marks: &[u32]) -> Result<Reason, Refusal>
     ensures { result ≡ reason_of image.now cells.now marks.now }
 {
-    match drive::check_drive(image, cells, marks) {
-        Check::Refused(number) => Reason::Refused(number),
-        Check::Ready(_) => reason_in(image, cells),
-    }
+    drive::check_drive(image, cells, marks)?;
+    Ok(reason_in(Drive { image, cells }))
 }

@@ -1,7 +1,7 @@
 // The engine's reply to an order, which the drive hands back: it settles the places that wait for it, and
 // is refused where none is awaited. `take_reply` answers for any words of the context, which is all that
-// it is lent. The definitions are in `specs/Reply`, the laws in `specs/Laws`. It rests on `cache` and
-// `engine`, and on what lies below them.
+// it is lent. The definitions are in `specs/Reply`, the laws in `specs/Laws`. It rests on `cache`,
+// `engine` and `refusal`, and on what lies below them.
 #![tactic(auto)]
 
 ghost use Rattle.std.specs.Prelude.{◌≡◌};
@@ -10,13 +10,7 @@ ghost use Rattle.reply.specs.Reply.{kind_done, kind_after, taking_of};
 
 use context::Context;
 use engine::EngineReply;
-
-// That the reply was taken, or the refusal's number.
-#[derive(Clone, Copy)]
-pub enum Answer {
-    Taken,
-    Refused(u32),
-}
+use refusal::Refusal;
 
 // What a waiting place becomes when its order is done: held by a load, empty by an unload or a clear.
 // A number that is never written tells nothing of the order, and the place is unsure.
@@ -47,13 +41,13 @@ fn kind_after(reply: EngineReply, awaited: u64) -> u64
 }
 
 // Takes the engine's reply to the order that awaits one: refusal 19 where none does.
-pub fn take_reply(context: &mut Context, reply: EngineReply) -> Answer
+pub fn take_reply(context: &mut Context, reply: EngineReply) -> Result<(), Refusal>
     ensures { outcome result context.new ≡ taking_of reply context.old }
 {
     let awaited = cache::awaited(context);
     if awaited == cache::NO_REPLY {
-        return Answer::Refused(19);
+        return Err(Refusal::NoReplyAwaited);
     }
     cache::settle(context, kind_after(reply, awaited));
-    Answer::Taken
+    Ok(())
 }

@@ -8,6 +8,9 @@ use Rattle.std.proofs.Math.Seq.{take-nil, get_or-take}
 use Rattle.std.proofs.Math.Dec.{ltb}
 use borrow.Author.Tests.{ltb-false, le-ltb, ne_eqb}
 use Rattle.laws.specs.Tests.{decided}
+use Rattle.refusal.specs.Numbers.{number}
+use Rattle.refusal.specs.declared.Refusal.{Refusal}
+use Rattle.refusal.specs.declared.Refusal.TheVariants.{BadMap, BadLent}
 use Rattle.endian.specs.Endian.{u16_at}
 use Rattle.map.proofs.Laws.{map_header}
 use Rattle.map.specs.Map.{map_good}
@@ -28,11 +31,11 @@ two_cut j (a ∷ []) = sym (take-nil j)
 two_cut j (a ∷ b ∷ s) = refl
 
 -- an input longer than any drive is refused, by its map's length and its map alone
-late : (len : ℕ) (image : List ℕ) → ℕ
-late len image = cond (ltb 256 len) 1 (cond (map_good image) 2 1)
+late : (len : ℕ) (image : List ℕ) → Refusal
+late len image = cond (ltb 256 len) BadMap (cond (map_good image) BadLent BadMap)
 
 module _ (view : View) (input : List ℕ) (l : 16642 < length input) where
-  too_much : drive_report view input ≡ refused_line (late (map_length input) (image_of input))
+  too_much : drive_report view input ≡ refused_line (number (late (map_length input) (image_of input)))
   unfolding late
   too_much =
       let len = map_length input in
@@ -73,12 +76,13 @@ module _ (view : View) (input : List ℕ) (k : ℕ) (l : 16642 < k) (h : k ≤ l
   drive_cut : drive_report view (take k input) ≡ drive_report view input
   drive_cut =
       let long : length (take k input) ≡ k = length-take-le k input h in
-      too_much view (take k input) (omega arith) ∙ ap refused_line same_late ∙ sym (too_much view input (omega arith))
+      too_much view (take k input) (omega arith) ∙ ap (λ (r : Refusal). refused_line (number r)) same_late ∙ sym (too_much view input (omega arith))
 
 -- a map's text that is longer than any drive is refused with 16, whatever it holds
 long_text : (input : List ℕ) → 16642 < length input → map_report input ≡ on_errors (refused_line 16)
 unfolding map_report
-long_text input l = too_long input 136 (omega arith) (omega arith) (λ number. on_errors (refused_line number)) (on_output (plan_image (plan_of input)))
+long_text input l =
+    too_long input 136 (omega arith) (omega arith) (λ (r : Refusal). on_errors (refused_line (number r))) (on_output (plan_image (plan_of input)))
 
 pub past_any_input : (program : Program) (input : List ℕ) (k : ℕ) → 16642 < k → k ≤ length input
     → report_of program (take k input) ≡ report_of program input

@@ -1,8 +1,7 @@
 -- The report's laws: the last line, which refusal is given, the cells as they are read, the table, and what an accepted input tells.
 -- Assumes nothing.
 -- The theorems stand in proofs/Laws.antt.
-use Rattle.std.specs.Prelude.{ℕ, ◌+◌, ◌-◌, ◌*◌, ◌≤◌, ◌≡◌, true, List, length, take, drop}
-use Rattle.map.specs.declared.Header.{Header}
+use Rattle.std.specs.Prelude.{ℕ, ◌+◌, ◌*◌, ◌≤◌, ◌≡◌, true, List, length}
 use Rattle.map.specs.Map.{map_good}
 use Rattle.report.specs.Status.{map_length, image_of, cell_count}
 
@@ -14,12 +13,3 @@ pub record Accepted (input : List ℕ) : Type 0 where
   pub whole : 2 + map_length input ≤ length input
   pub good : map_good (image_of input) ≡ true
   pub long : length input ≡ 2 + map_length input + 8 * cell_count input
-
--- the same, at what was read of it: the map's length and the header of the lent image
-pub record Taken (input : List ℕ) (len : ℕ) (header : Header) : Type 0 where
-  pub len_most : len ≤ 256
-  pub whole : 2 + len ≤ length input
-  pub image : take (2 + len - 2) (drop 2 input) ≡ image_of input
-  pub good : map_good (image_of input) ≡ true
-  pub count : header.cells ≡ cell_count input
-  pub count_most : header.cells ≤ 2048

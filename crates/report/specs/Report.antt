@@ -1,16 +1,16 @@
 -- What each of the programs prints for the bytes that it reads: `status` (document 01, "A status program") and `why` (document 02,
 -- request P1), which read the same input and refuse it in the same order, and `make_map` (ours, for
 -- request P2). Assumes nothing.
-use Rattle.std.specs.Prelude.{ℕ, ◌≤◌, ◌≡◌, List, ◌++◌, length, drop}
-use Rattle.laws.specs.Refusals.{first_of}
+use Rattle.std.specs.Prelude.{ℕ, ◌≤◌, ◌≡◌, List, ◌++◌, length, drop, Result, Ok, Err}
+use Rattle.refusal.specs.Refusals.{first_of}
+use Rattle.refusal.specs.Numbers.{number}
+use Rattle.refusal.specs.declared.Refusal.{Refusal}
 use Rattle.plan.specs.Reading.{plan_of}
 use Rattle.plan.specs.Writing.{image_of as plan_image, writing_tests}
 use Rattle.text.specs.Text.{text}
 use Rattle.wording.specs.Wording.{why_line}
 use Rattle.report.specs.declared.Program.{Program}
 use Rattle.report.specs.declared.Program.TheVariants.{Status, Why, MakeMap}
-use Rattle.report.specs.declared.Reading.{Reading}
-use Rattle.report.specs.declared.Reading.TheVariants.{Drive, Refused}
 use Rattle.report.specs.declared.Failure.{Failure}
 use Rattle.report.specs.declared.Failure.TheVariants.{Input as NoInput, Output as NoOutput}
 use Rattle.report.specs.declared.View.{View}
@@ -34,9 +34,9 @@ output_of Table image cells = table_of image cells
 output_of Line image cells = why_line image cells
 
 -- for each reading of the input
-abbrev pub printed : View → Reading → (input : List ℕ) → List ℕ
-printed view (Refused number) input = refused_line number
-printed view Drive input = output_of view (image_of input) (input_cells input)
+abbrev pub printed : View → Result (List ℕ × List ℕ) Refusal → (input : List ℕ) → List ℕ
+printed view (Err refusal) input = refused_line (number refusal)
+printed view (Ok parts) input = output_of view (image_of input) (input_cells input)
 
 abbrev pub drive_report : View → (input : List ℕ) → List ℕ
 drive_report view input = printed view (reading_of input) input
@@ -57,7 +57,7 @@ on_errors bytes = record { stream = Errors; bytes = bytes }
 -- ours, for request P2: `make_map` prints the image of the text, with a buffer for 16 partitions. A refusal goes to standard error, since
 -- standard output takes an image and nothing else
 unfoldable pub map_report : (input : List ℕ) → Saying
-map_report input = first_of (λ number. on_errors (refused_line number)) (writing_tests input 136) (on_output (plan_image (plan_of input)))
+map_report input = first_of (λ refusal. on_errors (refused_line (number refusal))) (writing_tests input 136) (on_output (plan_image (plan_of input)))
 
 -- everything that a program prints
 abbrev pub report_of : Program → (input : List ℕ) → Saying

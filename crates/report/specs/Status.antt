@@ -1,7 +1,9 @@
 -- Document 01, "The small drive", its last part: what the status program prints for the bytes that it reads. Assumes nothing.
-use Rattle.std.specs.Prelude.{ℕ, ◌+◌, ◌*◌, ◌<◌, ◌≡◌, Bool, true, cond, not, List, [], ◌∷◌, ◌++◌, length, take, drop, eqb, ltb}
+use Rattle.std.specs.Prelude.{ℕ, ◌+◌, ◌*◌, ◌<◌, ◌≡◌, Bool, true, cond, not, List, [], ◌∷◌, ◌++◌, length, take, drop, eqb, ltb, Result, Ok, Err}
 use Rattle.laws.specs.Below.{join_below}
-use Rattle.laws.specs.Refusals.{first_of}
+use Rattle.refusal.specs.Refusals.{first_of}
+use Rattle.refusal.specs.declared.Refusal.{Refusal}
+use Rattle.refusal.specs.declared.Refusal.TheVariants.{BadMap, BadLent}
 use Rattle.endian.specs.Endian.{u16_at, u32_at}
 use Rattle.map.specs.Map.{header_of, entry_of, map_good}
 use Rattle.partition.specs.declared.State.{State}
@@ -11,8 +13,6 @@ use Rattle.drive.specs.declared.ActiveSlot.{ActiveSlot}
 use Rattle.drive.specs.Drive.{survey_at, active_slot, slot_number, available}
 use Rattle.text.specs.Text.{text, decimal}
 use Rattle.wording.specs.Wording.{refused_words}
-use Rattle.report.specs.declared.Reading.{Reading}
-use Rattle.report.specs.declared.Reading.TheVariants.{Drive, Refused}
 
 -- ---- the input: "a u16 map length, the map, C cells, C marks, each a little-endian u32"
 
@@ -38,18 +38,22 @@ input_cells input = join_below (number_at input (2 + map_length input)) (cell_co
 
 -- the refusals, "in this order: 2 the length is cut short, 1 the length is over 256, 2 the map is cut short, 1 the map is bad, 2 the
 -- cells and marks are cut short or anything follows them"
-abbrev pub input_tests : (input : List ℕ) → List (Bool × ℕ)
+abbrev pub input_tests : (input : List ℕ) → List (Bool × Refusal)
 input_tests input =
-    (ltb (length input) 2, 2)
-    ∷ (ltb 256 (map_length input), 1)
-    ∷ (ltb (length input) (2 + map_length input), 2)
-    ∷ (not (map_good (image_of input)), 1)
-    ∷ (not (eqb (length input) (2 + map_length input + 8 * cell_count input)), 2)
+    (ltb (length input) 2, BadLent)
+    ∷ (ltb 256 (map_length input), BadMap)
+    ∷ (ltb (length input) (2 + map_length input), BadLent)
+    ∷ (not (map_good (image_of input)), BadMap)
+    ∷ (not (eqb (length input) (2 + map_length input + 8 * cell_count input)), BadLent)
     ∷ []
 
--- the first of them that applies, else a whole drive
-unfoldable pub reading_of : (input : List ℕ) → Reading
-reading_of input = first_of Refused (input_tests input) Drive
+-- a whole drive: the map, and the bytes of its cells and marks
+abbrev pub parts_of : (input : List ℕ) → List ℕ × List ℕ
+parts_of input = (image_of input, drop (2 + map_length input) input)
+
+-- the first of the refusals that applies, else a whole drive
+unfoldable pub reading_of : (input : List ℕ) → Result (List ℕ × List ℕ) Refusal
+reading_of input = first_of Err (input_tests input) (Ok (parts_of input))
 
 -- ---- the output
 

@@ -2,20 +2,22 @@
 // in a lent buffer, and so do the lines that they say on standard error. Reading, judging and every
 // printed byte are decided here; the programs only move bytes. The definitions are in `specs/Status`,
 // of all programs together in `specs/Report`; the laws in `proofs/Laws`, `proofs/Maps` and
-// `proofs/Longer`. It rests on `drive`, `reader`, `map`, `plan`, `partition`, `text` and `wording`, and
-// below them on `cache`, `context`, `endian`, `fuse`, `laws` and `reason`.
+// `proofs/Longer`. It rests on `drive`, `endian`, `reader`, `map`, `plan`, `partition`, `refusal`,
+// `text` and `wording`, and below them on `cache`, `context`, `fuse`, `laws` and `reason`.
 #![tactic(auto)]
 
-ghost use Rattle.std.specs.Prelude.{◌≡◌, ◌++◌, ◌+◌, ◌≤◌, length, drop};
+ghost use Rattle.std.specs.Prelude.{◌≡◌, ◌+◌, ◌*◌, ◌≤◌, true, length};
+ghost use Rattle.std.specs.Result.{result_map_both};
 ghost use Rattle.laws.specs.Below.{join_below};
-ghost use Rattle.drive.specs.Drive.{Whole};
-ghost use Rattle.report.specs.Status.{image_of, number_at, input_cells, reading_of, state_name, line_of, hek_line, table_of, refused_line, SmallLine, SmallSlot};
+ghost use Rattle.refusal.specs.Numbers.{number};
+ghost use Rattle.map.specs.Map.{header_of, map_good};
+ghost use Rattle.report.specs.Status.{number_at, reading_of, state_name, line_of, hek_line, table_of, refused_line, SmallLine, SmallSlot};
 ghost use Rattle.report.specs.Report.{program_name, output_of, drive_report, map_report, report_of, failure_line, Printed, Told};
 ghost use Rattle.laws.specs.Put.{Put};
 
-use drive::ActiveSlot;
+use drive::{ActiveSlot, Drive};
 use partition::{State, Survey};
-use plan::Answer;
+use refusal::Refusal;
 
 // The programs: the state of each partition of a drive, why it offers no HEK, and a map from its text.
 #[derive(Clone, Copy)]
@@ -26,6 +28,7 @@ pub enum Program {
 }
 
 // What is printed of a drive: the table of its partitions, or the line that says why.
+// Kept as an enum, not a closure: `output_of` and the contracts name which of the two it is.
 #[derive(Clone, Copy)]
 pub enum View {
     Table,
@@ -33,7 +36,7 @@ pub enum View {
 }
 
 // Where a program prints: on standard output, or on standard error.
-#[derive(Clone, Copy)]
+#[derive(Clone, Copy, PartialEq, Eq)]
 pub enum Stream {
     Output,
     Errors,
@@ -46,13 +49,6 @@ pub struct Report {
     pub count: usize,
 }
 
-// What the input is: a whole drive, or refused with its number, a byte, which can always be printed.
-#[derive(Clone, Copy)]
-pub enum Reading {
-    Drive,
-    Refused(u8),
-}
-
 // What a program could not do: read its input, or write its output.
 #[derive(Clone, Copy)]
 pub enum Failure {
@@ -60,16 +56,15 @@ pub enum Failure {
     Output,
 }
 
-// Writes a state's name.
-fn put_name(out: &mut [u8], at: usize, state: State) -> usize
-    requires { at + 10 ≤ length out.old }
-    ensures { Put at (state_name state) out.old out.new result × (result ≤ at + 10) }
+// A state's name.
+fn state_name(state: State) -> &'static [u8]
+    ensures { (result.now ≡ state_name state) × (length result.now ≤ 10) }
 {
     match state {
-        State::Erased => text::put(out, at, b"erased"),
-        State::Torn => text::put(out, at, b"torn"),
-        State::Blank => text::put(out, at, b"blank"),
-        State::Programmed => text::put(out, at, b"programmed"),
+        State::Erased => b"erased",
+        State::Torn => b"torn",
+        State::Blank => b"blank",
+        State::Programmed => b"programmed",
     }
 }
 
@@ -78,15 +73,13 @@ fn put_line(out: &mut [u8], at: usize, i: u32, n: u16, survey: Survey) -> usize
     requires { (at + 26 ≤ length out.old) × SmallLine i n survey }
     ensures { Put at (line_of i n survey) out.old out.new result × (result ≤ at + 26) }
 {
-    let state = survey.state;
-    let short = survey.short;
     let at = text::put_decimal(out, at, i as usize);
     let at = text::put(out, at, b" ");
     let at = text::put_decimal(out, at, n as usize);
     let at = text::put(out, at, b" ");
-    let at = put_name(out, at, state);
+    let at = text::put(out, at, state_name(survey.state));
     let at = text::put(out, at, b" ");
-    let at = text::put_decimal(out, at, short);
+    let at = text::put_decimal(out, at, survey.short);
     text::put(out, at, b"\n")
 }
 
@@ -95,104 +88,92 @@ fn put_hek(out: &mut [u8], at: usize, slot: ActiveSlot) -> usize
     requires { (at + 9 ≤ length out.old) × SmallSlot slot }
     ensures { Put at (hek_line slot) out.old out.new result × (result ≤ at + 9) }
 {
-    if !drive::is_available(slot) {
+    let ActiveSlot::Programmed(partition) = slot else {
         return text::put(out, at, b"hek none\n");
-    }
-    let partition = drive::slot_number(slot) as usize;
-    let at = text::put(out, at, b"hek ");
-    let at = text::put_decimal(out, at, partition);
+    };
+    let at = text::put_numbered(out, at, b"hek ", partition as usize);
     text::put(out, at, b"\n")
 }
 
 // Writes the line of a refusal.
-fn put_refused(out: &mut [u8], number: u8) -> usize
+fn put_refused(out: &mut [u8], refusal: Refusal) -> usize
     requires { 13 ≤ length out.old }
-    ensures { Put 0 (refused_line number) out.old out.new result }
+    ensures { Put 0 (refused_line (number refusal)) out.old out.new result }
 {
-    let at = wording::put_refused(out, number as u32);
+    let at = wording::put_refused(out, u32::from(refusal));
     text::put(out, at, b"\n")
 }
 
-// Judges the input: the refusals in the document's order, or a whole drive.
-fn read_input(input: &[u8]) -> Reading
-    ensures { result ≡ reading_of input.now }
+// Judges the input: the refusals in the document's order, or a whole drive: its map, and the bytes of
+// its cells and marks.
+fn read_input(input: &[u8]) -> Result<(&[u8], &[u8]), Refusal>
+    ensures { result_map_both (λ parts. (parts.0.now, parts.1.now)) (λ refusal. refusal) result
+        ≡ reading_of input.now }
 {
     if input.len() < 2 {
-        return Reading::Refused(2);
+        return Err(Refusal::BadLent);
     }
     let len = endian::u16_at(input, 0) as usize;
     if 256 < len {
-        return Reading::Refused(1);
+        return Err(Refusal::BadMap);
     }
-    let end = 2 + len;
-    if input.len() < end {
-        return Reading::Refused(2);
-    }
-    let image = &input[2..end];
+    let (image, arrays) = input[2..].split_at_checked(len).ok_or(Refusal::BadLent)?;
     if !map::is_good(image) {
-        return Reading::Refused(1);
+        return Err(Refusal::BadMap);
     }
-    let header = map::read_header(image);
-    if input.len() == end + 8 * (header.cells as usize) {
-        return Reading::Drive;
+    if arrays.len() == 8 * (map::read_header(image).cells as usize) {
+        return Ok((image, arrays));
     }
-    Reading::Refused(2)
+    Err(Refusal::BadLent)
 }
 
-// Reads `count` numbers that start at `from` into the front of `cells`.
-fn read_cells(input: &[u8], from: usize, count: usize, cells: &mut [u32])
-    requires { (from ≤ 258) × (count ≤ 2048) × (count ≤ length cells.old) }
-    ensures { cells.new ≡ join_below (number_at input.now from) count ++ drop count cells.old }
+// Reads the numbers in the front of the bytes, as many as there is room for.
+fn read_cells(arrays: &[u8], cells: &mut [u32])
+    requires { length cells.old ≤ 2048 }
+    ensures { cells.new ≡ join_below (number_at arrays.now 0) (length cells.new) }
 {
-    let mut k: usize = 0;
-    while k < count {
-        cells[k] = endian::u32_at(input, from + 4 * k);
-        k += 1;
+    for (k, cell) in cells.iter_mut().enumerate() {
+        *cell = endian::u32_at(arrays, 4 * k);
     }
 }
 
 // Writes the table of a drive: a header, a line for each partition, and the HEK.
-fn put_table(out: &mut [u8], image: &[u8], cells: &[u32]) -> usize
-    requires { Whole image.now cells.now × (448 ≤ length out.old) }
-    ensures { Put 0 (table_of image.now cells.now) out.old out.new result }
+fn put_table(out: &mut [u8], drive: Drive) -> usize
+    requires { 448 ≤ length out.old }
+    ensures { Put 0 (table_of drive.entry.image.now drive.entry.cells.now) out.old out.new result }
 {
-    let header = map::read_header(image);
-    let partitions = header.partitions as u32;
+    let header = map::read_header(drive.image);
     let mut at = text::put(out, 0, b"part cells state short\n");
-    let mut i: u32 = 0;
-    while i < partitions {
-        let fields = reader::fields_of(image, i);
-        let x = fields.entry;
-        let survey = drive::survey_at(image, cells, i);
-        at = put_line(out, at, i, x.n, survey);
-        i += 1;
+    for i in 0..u32::from(header.partitions) {
+        let fields = reader::fields_of(drive.image, i);
+        let survey = drive.survey(i);
+        at = put_line(out, at, i, fields.entry.n, survey);
     }
-    put_hek(out, at, drive::active_in(image, cells))
+    put_hek(out, at, drive.active_slot())
 }
 
 // Writes what is printed of a drive.
-fn put_output(out: &mut [u8], view: View, image: &[u8], cells: &[u32]) -> usize
-    requires { Whole image.now cells.now × (448 ≤ length out.old) }
-    ensures { Put 0 (output_of view image.now cells.now) out.old out.new result }
+fn put_output(out: &mut [u8], view: View, drive: Drive) -> usize
+    requires { 448 ≤ length out.old }
+    ensures { Put 0 (output_of view drive.entry.image.now drive.entry.cells.now) out.old out.new result }
 {
     match view {
-        View::Table => put_table(out, image, cells),
-        View::Line => wording::put_why(out, image, cells),
+        View::Table => put_table(out, drive),
+        View::Line => wording::put_why(out, drive),
     }
 }
 
-// Writes what is printed of the drive that the input holds.
-fn put_drive(out: &mut [u8], view: View, input: &[u8]) -> usize
-    requires { (reading_of input.now ≡ Reading.Drive) × (448 ≤ length out.old) }
-    ensures { Put 0 (output_of view (image_of input.now) (input_cells input.now)) out.old out.new result }
+// Writes what is printed of the drive that has this map, and these bytes for its cells and marks.
+fn put_drive(out: &mut [u8], view: View, image: &[u8], arrays: &[u8]) -> usize
+    requires { (map_good image.now ≡ true) × (448 ≤ length out.old) }
+    ensures { Put 0 (output_of view image.now (join_below (number_at arrays.now 0) (header_of image.now).cells))
+        out.old out.new result }
 {
-    let end = 2 + endian::u16_at(input, 0) as usize;
-    let image = &input[2..end];
-    let header = map::read_header(image);
-    let count = header.cells as usize;
+    let count = map::read_header(image).cells as usize;
     let mut numbers = [0u32; 2048];
-    read_cells(input, end, count, &mut numbers);
-    put_output(out, view, image, &numbers[..count])
+    let cells = &mut numbers[..count];
+    read_cells(arrays, cells);
+    put_output(out, view, Drive { image, cells })
 }
 
 // What is printed for the bytes of a drive, in the front of the lent buffer.
@@ -201,8 +182,8 @@ fn report_drive(view: View, input: &[u8], out: &mut [u8]) -> usize
     ensures { Put 0 (drive_report view input.now) out.old out.new result }
 {
     match read_input(input) {
-        Reading::Refused(number) => put_refused(out, number),
-        Reading::Drive => put_drive(out, view, input),
+        Ok((image, arrays)) => put_drive(out, view, image, arrays),
+        Err(refusal) => put_refused(out, refusal),
     }
 }
 
@@ -212,13 +193,13 @@ fn report_map(input: &[u8], out: &mut [u8]) -> Report
     ensures { Told (map_report input.now) out.old out.new result }
 {
     match plan::write_map(input, &mut out[..136]) {
-        Answer::Written(bytes) => Report {
+        Ok(size) => Report {
             stream: Stream::Output,
-            count: bytes as usize,
+            count: size as usize,
         },
-        Answer::Refused(number) => Report {
+        Err(refusal) => Report {
             stream: Stream::Errors,
-            count: put_refused(out, number as u8),
+            count: put_refused(out, refusal),
         },
     }
 }
@@ -239,15 +220,14 @@ pub fn report_on(program: Program, input: &[u8], out: &mut [u8; 512]) -> Report
     }
 }
 
-// Writes a program's name.
-fn put_program(out: &mut [u8], program: Program) -> usize
-    requires { 8 ≤ length out.old }
-    ensures { Put 0 (program_name program) out.old out.new result × (result ≤ 8) }
+// A program's name.
+fn program_name(program: Program) -> &'static [u8]
+    ensures { (result.now ≡ program_name program) × (length result.now ≤ 8) }
 {
     match program {
-        Program::Status => text::put(out, 0, b"status"),
-        Program::Why => text::put(out, 0, b"why"),
-        Program::MakeMap => text::put(out, 0, b"make_map"),
+        Program::Status => b"status",
+        Program::Why => b"why",
+        Program::MakeMap => b"make_map",
     }
 }
 
@@ -256,7 +236,7 @@ fn put_program(out: &mut [u8], program: Program) -> usize
 pub fn report_failure(program: Program, failure: Failure, out: &mut [u8; 64]) -> usize
     ensures { Printed (failure_line program failure) out.old out.new result }
 {
-    let at = put_program(out, program);
+    let at = text::put(out, 0, program_name(program));
     match failure {
         Failure::Input => text::put(out, at, b": standard input cannot be read\n"),
         Failure::Output => text::put(out, at, b": standard output cannot be written\n"),

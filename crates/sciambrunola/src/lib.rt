@@ -3,8 +3,8 @@
 // the table of handles, the mailbox and the engine's reply, their answers as the numbers of `numbers`,
 // `reasons` and `replies`. Each function does what the entry point below it does, for any bytes and any
 // lengths, and asks nothing of its caller but what include/sciambrunola.h says of pointers. It rests on
-// `reader`, `plan`, `states`, `reason`, `cache`, `handles`, `direct`, `erasure`, `mailbox` and `reply`, and
-// on the array of `context`.
+// `reader`, `plan`, `states`, `reason`, `cache`, `handles`, `direct`, `erasure`, `mailbox` and `reply`, on
+// the types of `refusal` and `engine`, and on the array of `context`.
 #![tactic(auto)]
 
 mod numbers;
@@ -24,7 +24,7 @@ ghost use Rattle.direct.specs.Direct.{direct_of};
 ghost use Rattle.mailbox.specs.Mailbox.{lent, mailbox_of};
 ghost use Rattle.reply.specs.Reply.{taking_of};
 ghost use Rattle.sciambrunola.specs.Numbers.{fields_numbers, written_numbers, listing_numbers, reason_numbers};
-ghost use Rattle.sciambrunola.specs.Numbers.{place_numbers, made_number, answer_numbers, erasure_numbers, reply_numbers, engine_reply, taken_number};
+ghost use Rattle.sciambrunola.specs.Numbers.{place_numbers, done_number, answer_numbers, erasure_numbers, reply_numbers, engine_reply};
 
 use context::Context;
 use direct::Command;
@@ -36,7 +36,7 @@ use reasons::SciReason;
 pub extern "C" fn sci_partition(image: &[u8], partition: u32) -> SciFields
     ensures { result ≡ fields_numbers (reading_of image.now partition) }
 {
-    numbers::flat_fields(reader::read_partition(image, partition))
+    reader::read_partition(image, partition).into()
 }
 
 // The image of a map, from its text.
@@ -44,7 +44,7 @@ pub extern "C" fn sci_partition(image: &[u8], partition: u32) -> SciFields
 pub extern "C" fn sci_write_map(text: &[u8], image: &mut [u8]) -> SciWritten
     ensures { outcome result image.new ≡ telling written_numbers (writing_of text.now image.old) }
 {
-    numbers::flat_written(plan::write_map(text, image))
+    plan::write_map(text, image).into()
 }
 
 // The state and the short pairs of each partition.
@@ -59,7 +59,7 @@ pub extern "C" fn sci_states(
     ensures { outcome result (lists states.new shorts.new)
         ≡ telling listing_numbers (listing_of image.now cells.now marks.now (lists states.old shorts.old)) }
 {
-    numbers::flat_listing(states::list_states(image, cells, marks, states, shorts))
+    states::list_states(image, cells, marks, states, shorts).into()
 }
 
 // Why the drive offers no HEK.
@@ -67,7 +67,7 @@ pub extern "C" fn sci_states(
 pub extern "C" fn sci_why(image: &[u8], cells: &[u32], marks: &[u32]) -> SciReason
     ensures { result ≡ reason_numbers (reason_of image.now cells.now marks.now) }
 {
-    reasons::flat_reason(reason::find_reason(image, cells, marks))
+    reason::find_reason(image, cells, marks).into()
 }
 
 // What is in a place of the key cache.
@@ -75,7 +75,7 @@ pub extern "C" fn sci_why(image: &[u8], cells: &[u32], marks: &[u32]) -> SciReas
 pub extern "C" fn sci_cache_place(context: &Context, place: u32) -> SciPlace
     ensures { result ≡ place_numbers (place_at (cache_of context.now) place) }
 {
-    numbers::flat_place(cache::read_place(context, place))
+    cache::read_place(context, place).into()
 }
 
 // READ of the word that starts at `cell`.
@@ -90,7 +90,7 @@ pub extern "C" fn sci_read(
     ensures { outcome result (state cells.new context.new)
         ≡ telling answer_numbers (direct_of image.now marks.now (Command.Read cell) (state cells.old context.old)) }
 {
-    numbers::flat_answer(direct::read(image, cells, marks, cell))
+    direct::read(image, cells, marks, cell).into()
 }
 
 // WRITE of a value into the word that starts at `cell`.
@@ -106,7 +106,7 @@ pub extern "C" fn sci_write(
     ensures { outcome result (state cells.new context.new)
         ≡ telling answer_numbers (direct_of image.now marks.now (Command.Write cell value) (state cells.old context.old)) }
 {
-    numbers::flat_answer(direct::write(image, cells, marks, context, cell, value))
+    direct::write(image, cells, marks, context, cell, value).into()
 }
 
 // ZEROIZE of the word that starts at `cell`.
@@ -121,7 +121,7 @@ pub extern "C" fn sci_zeroize(
     ensures { outcome result (state cells.new context.new)
         ≡ telling answer_numbers (direct_of image.now marks.now (Command.Zeroize cell) (state cells.old context.old)) }
 {
-    numbers::flat_answer(direct::zeroize(image, cells, marks, context, cell))
+    direct::zeroize(image, cells, marks, context, cell).into()
 }
 
 // The erasure of a partition.
@@ -136,7 +136,7 @@ pub extern "C" fn sci_erase(
     ensures { outcome result (state cells.new context.new)
         ≡ telling erasure_numbers (erasure_of image.now marks.now partition (state cells.old context.old)) }
 {
-    numbers::flat_erasure(erasure::erase(image, cells, marks, context, partition))
+    erasure::erase(image, cells, marks, context, partition).into()
 }
 
 // The erasure of a partition, cut by a power failure at burn `k`, of whose word the mask has burned.
@@ -153,7 +153,7 @@ pub extern "C" fn sci_erase_cut(
     ensures { outcome result (state cells.new context.new)
         ≡ telling erasure_numbers (cut_erasure_of image.now marks.now partition k mask (state cells.old context.old)) }
 {
-    numbers::flat_erasure(erasure::erase_cut(image, cells, marks, context, partition, k, mask))
+    erasure::erase_cut(image, cells, marks, context, partition, k, mask).into()
 }
 
 // A restart.
@@ -169,9 +169,9 @@ pub extern "C" fn sci_restart(context: &mut Context)
 #[unsafe(no_mangle)]
 pub extern "C" fn sci_make_table(context: &mut Context, handles: &[u32], algorithms: &[u32]) -> u32
     ensures { outcome result context.new
-        ≡ telling made_number (making_of handles.now algorithms.now context.old) }
+        ≡ telling done_number (making_of handles.now algorithms.now context.old) }
 {
-    numbers::flat_made(handles::make_table(context, handles, algorithms))
+    replies::done_number(handles::make_table(context, handles, algorithms))
 }
 
 // A call of the mailbox.
@@ -190,14 +190,14 @@ pub extern "C" fn sci_mailbox(
         ≡ telling reply_numbers (mailbox_of image.now marks.now code request.now
         (lent (state cells.old context.old) response.old block.old)) }
 {
-    numbers::flat_reply(mailbox::call(image, cells, marks, context, code, request, response, block))
+    mailbox::call(image, cells, marks, context, code, request, response, block).into()
 }
 
 // The engine's reply to the order that awaits one, by its number, with the vendor's number. Answers 0 where
 // it was taken, else the refusal's number.
 #[unsafe(no_mangle)]
 pub extern "C" fn sci_engine_reply(context: &mut Context, reply: u32, vendor: u32) -> u32
-    ensures { outcome result context.new ≡ telling taken_number (taking_of (engine_reply reply vendor) context.old) }
+    ensures { outcome result context.new ≡ telling done_number (taking_of (engine_reply reply vendor) context.old) }
 {
-    replies::flat_taken(reply::take_reply(context, replies::reply_of(reply, vendor)))
+    replies::done_number(reply::take_reply(context, replies::reply_of(reply, vendor)))
 }

@@ -1,24 +1,22 @@
 // The answers as numbers, for C, since an enum does not cross: a struct for each kind of answer, and
-// the function that makes it. The numbers of each case are in `specs/Numbers`, but for those of the
-// states, which `states` writes into the lent arrays (`state_number`). It rests on the types of
-// `reader`, `plan`, `states`, `cache`, `handles`, `direct`, `erasure`, `mailbox` and `engine`.
+// how it is made. The numbers of each case are in `specs/Numbers`, but for those of the states, which
+// `states` writes into the lent arrays (`state_number`). It rests on the types of `refusal`, `reader`,
+// `cache`, `direct`, `erasure`, `mailbox` and `engine`.
 ghost use Rattle.std.specs.Prelude.{◌≡◌};
-ghost use Rattle.sciambrunola.specs.Numbers.{fields_numbers, written_numbers, listing_numbers, place_numbers, made_number};
-ghost use Rattle.sciambrunola.specs.Numbers.{answer_numbers, erasure_numbers, order_numbers, reply_numbers};
+ghost use Rattle.sciambrunola.specs.Numbers.{fields_numbers, written_numbers, listing_numbers, place_numbers};
+ghost use Rattle.sciambrunola.specs.Numbers.{answer_numbers, erasure_numbers, reply_numbers};
 
 use cache::Place;
 use direct::Answer;
 use engine::Order;
-use erasure::Answer as Erasure;
-use handles::Answer as Making;
+use erasure::{Answer as Erasure, Refused};
 use mailbox::Reply;
-use plan::Answer as Writing;
-use reader::Reading;
-use states::Listing;
+use reader::Fields;
+use refusal::Refusal;
 
 // What a map says of a partition, with its header. refusal: 0 where it is told.
 #[repr(C)]
-#[derive(Clone, Copy)]
+#[derive(Clone, Copy, Default)]
 pub struct SciFields {
     pub refusal: u32,
     pub partitions: u32,
@@ -58,7 +56,7 @@ pub struct SciPlace {
 // A direct command's answer. kind: 0 a word, 1 done, 2 withheld, 3 refused. new: the fuses newly set, 0
 // where the answer has no such number.
 #[repr(C)]
-#[derive(Clone, Copy)]
+#[derive(Clone, Copy, Default)]
 pub struct SciAnswer {
     pub kind: u32,
     pub refusal: u32,
@@ -69,7 +67,7 @@ pub struct SciAnswer {
 // An erasure's answer. kind: 0 ended (the partition is erased exactly if `short` is 0 or `first` is its
 // indicator's first cell, else torn), 1 cut, 2 refused. new: the fuses newly set, 0 where refused.
 #[repr(C)]
-#[derive(Clone, Copy)]
+#[derive(Clone, Copy, Default)]
 pub struct SciErasure {
     pub kind: u32,
     pub refusal: u32,
@@ -81,7 +79,7 @@ pub struct SciErasure {
 
 // The mailbox's answer. order: 0 none, 1 clear, 2 load, 3 unload.
 #[repr(C)]
-#[derive(Clone, Copy)]
+#[derive(Clone, Copy, Default)]
 pub struct SciReply {
     pub refusal: u32,
     pub length: u32,
@@ -91,214 +89,168 @@ pub struct SciReply {
 }
 
 // A partition's fields as numbers.
-pub fn flat_fields(reading: Reading) -> SciFields
-    ensures { result ≡ fields_numbers reading }
-{
-    match reading {
-        Reading::Refused(number) => SciFields {
-            refusal: number,
-            partitions: 0,
-            cells: 0,
-            bound: 0,
-            first: 0,
-            length: 0,
-            kind: 0,
-            flags: 0,
-        },
-        Reading::Partition(fields) => {
-            let header = fields.header;
-            let entry = fields.entry;
-            SciFields {
+impl From<Result<Fields, Refusal>> for SciFields {
+    ghost from_gives = { λ reading fields. fields ≡ fields_numbers reading };
+
+    fn from(reading: Result<Fields, Refusal>) -> SciFields {
+        match reading {
+            Ok(Fields { header, entry }) => SciFields {
                 refusal: 0,
-                partitions: header.partitions as u32,
-                cells: header.cells as u32,
-                bound: header.bound as u32,
-                first: entry.first as u32,
-                length: entry.n as u32,
-                kind: entry.kind as u32,
-                flags: entry.flags as u32,
-            }
+                partitions: header.partitions.into(),
+                cells: header.cells.into(),
+                bound: header.bound.into(),
+                first: entry.first.into(),
+                length: entry.n.into(),
+                kind: entry.kind.into(),
+                flags: entry.flags.into(),
+            },
+            Err(refusal) => SciFields {
+                refusal: refusal.into(),
+                ..SciFields::default()
+            },
         }
     }
 }
 
 // What came of a map's text as numbers.
-pub fn flat_written(writing: Writing) -> SciWritten
-    ensures { result ≡ written_numbers writing }
-{
-    match writing {
-        Writing::Written(bytes) => SciWritten {
-            refusal: 0,
-            bytes: bytes,
-        },
-        Writing::Refused(number) => SciWritten {
-            refusal: number,
-            bytes: 0,
-        },
+// Kept as two, this and the next: include/sciambrunola.h has a struct for each.
+impl From<Result<u32, Refusal>> for SciWritten {
+    ghost from_gives = { λ writing written. written ≡ written_numbers writing };
+
+    fn from(writing: Result<u32, Refusal>) -> SciWritten {
+        match writing {
+            Ok(bytes) => SciWritten { refusal: 0, bytes },
+            Err(refusal) => SciWritten {
+                refusal: refusal.into(),
+                bytes: 0,
+            },
+        }
     }
 }
 
 // A listing's answer as numbers.
-pub fn flat_listing(listing: Listing) -> SciListing
-    ensures { result ≡ listing_numbers listing }
-{
-    match listing {
-        Listing::Listed(partitions) => SciListing {
-            refusal: 0,
-            partitions: partitions,
-        },
-        Listing::Refused(number) => SciListing {
-            refusal: number,
-            partitions: 0,
-        },
+impl From<Result<u32, Refusal>> for SciListing {
+    ghost from_gives = { λ listing listed. listed ≡ listing_numbers listing };
+
+    fn from(listing: Result<u32, Refusal>) -> SciListing {
+        match listing {
+            Ok(partitions) => SciListing {
+                refusal: 0,
+                partitions,
+            },
+            Err(refusal) => SciListing {
+                refusal: refusal.into(),
+                partitions: 0,
+            },
+        }
     }
 }
 
 // A place as numbers.
-pub fn flat_place(place: Place) -> SciPlace
-    ensures { result ≡ place_numbers place }
-{
-    match place {
-        Place::Empty => SciPlace { kind: 0, tag: 0 },
-        Place::Held(tag) => SciPlace { kind: 1, tag: tag },
-        Place::Waiting(tag) => SciPlace { kind: 2, tag: tag },
-        Place::Unsure(tag) => SciPlace { kind: 3, tag: tag },
-    }
-}
+impl From<Place> for SciPlace {
+    ghost from_gives = { λ place numbers. numbers ≡ place_numbers place };
 
-// What came of a table: 0 where it was made, else the refusal's number.
-pub fn flat_made(making: Making) -> u32
-    ensures { result ≡ made_number making }
-{
-    match making {
-        Making::Made => 0,
-        Making::Refused(number) => number,
+    fn from(place: Place) -> SciPlace {
+        match place {
+            Place::Empty => SciPlace { kind: 0, tag: 0 },
+            Place::Held(tag) => SciPlace { kind: 1, tag },
+            Place::Waiting(tag) => SciPlace { kind: 2, tag },
+            Place::Unsure(tag) => SciPlace { kind: 3, tag },
+        }
     }
 }
 
 // An answer as numbers.
-pub fn flat_answer(answer: Answer) -> SciAnswer
-    ensures { result ≡ answer_numbers answer }
-{
-    match answer {
-        Answer::Word(word) => SciAnswer {
-            kind: 0,
-            refusal: 0,
-            word: word,
-            new: 0,
-        },
-        Answer::Burned { word, new } => SciAnswer {
-            kind: 0,
-            refusal: 0,
-            word: word,
-            new: new,
-        },
-        Answer::Done => SciAnswer {
-            kind: 1,
-            refusal: 0,
-            word: 0,
-            new: 0,
-        },
-        Answer::Withheld => SciAnswer {
-            kind: 2,
-            refusal: 0,
-            word: 0,
-            new: 0,
-        },
-        Answer::Refused(number) => SciAnswer {
-            kind: 3,
-            refusal: number,
-            word: 0,
-            new: 0,
-        },
+impl From<Result<Answer, Refusal>> for SciAnswer {
+    ghost from_gives = { λ answer numbers. numbers ≡ answer_numbers answer };
+
+    fn from(answer: Result<Answer, Refusal>) -> SciAnswer {
+        let zeros = SciAnswer::default();
+        match answer {
+            Ok(Answer::Word(word)) => SciAnswer { word, ..zeros },
+            Ok(Answer::Burned { word, new }) => SciAnswer { word, new, ..zeros },
+            Ok(Answer::Done) => SciAnswer { kind: 1, ..zeros },
+            Ok(Answer::Withheld) => SciAnswer { kind: 2, ..zeros },
+            Err(refusal) => SciAnswer {
+                kind: 3,
+                refusal: refusal.into(),
+                ..zeros
+            },
+        }
     }
 }
 
 // An erasure's answer as numbers.
-pub fn flat_erasure(answer: Erasure) -> SciErasure
-    ensures { result ≡ erasure_numbers answer }
-{
-    match answer {
-        Erasure::Ended {
-            short,
-            first,
-            burns,
-            new,
-        } => SciErasure {
-            kind: 0,
-            refusal: 0,
-            short: short,
-            first: first,
-            burns: burns,
-            new: new,
-        },
-        Erasure::Cut { burns, new } => SciErasure {
-            kind: 1,
-            refusal: 0,
-            short: 0,
-            first: 0,
-            burns: burns,
-            new: new,
-        },
-        Erasure::Refused { number, burns } => SciErasure {
-            kind: 2,
-            refusal: number,
-            short: 0,
-            first: 0,
-            burns: burns,
-            new: 0,
-        },
-    }
-}
+impl From<Result<Erasure, Refused>> for SciErasure {
+    ghost from_gives = { λ answer numbers. numbers ≡ erasure_numbers answer };
 
-// An accepted call's reply as numbers.
-fn flat_order(length: u32, order: Order) -> SciReply
-    ensures { result ≡ order_numbers length order }
-{
-    match order {
-        Order::Nothing => SciReply {
-            refusal: 0,
-            length: length,
-            order: 0,
-            place: 0,
-            timeout: 0,
-        },
-        Order::Clear { timeout } => SciReply {
-            refusal: 0,
-            length: length,
-            order: 1,
-            place: 0,
-            timeout: timeout,
-        },
-        Order::Load { place, timeout } => SciReply {
-            refusal: 0,
-            length: length,
-            order: 2,
-            place: place,
-            timeout: timeout,
-        },
-        Order::Unload { place, timeout } => SciReply {
-            refusal: 0,
-            length: length,
-            order: 3,
-            place: place,
-            timeout: timeout,
-        },
+    fn from(answer: Result<Erasure, Refused>) -> SciErasure {
+        let zeros = SciErasure::default();
+        match answer {
+            Ok(
+                Erasure::Ended {
+                    short,
+                    first,
+                    burns,
+                    new,
+                },
+            ) => SciErasure {
+                short,
+                first,
+                burns,
+                new,
+                ..zeros
+            },
+            Ok(Erasure::Cut { burns, new }) => SciErasure {
+                kind: 1,
+                burns,
+                new,
+                ..zeros
+            },
+            Err(Refused { refusal, burns }) => SciErasure {
+                kind: 2,
+                refusal: refusal.into(),
+                burns,
+                ..zeros
+            },
+        }
     }
 }
 
 // A reply as numbers.
-pub fn flat_reply(reply: Reply) -> SciReply
-    ensures { result ≡ reply_numbers reply }
-{
-    match reply {
-        Reply::Refused(number) => SciReply {
-            refusal: number,
-            length: 0,
-            order: 0,
-            place: 0,
-            timeout: 0,
-        },
-        Reply::Accepted { length, order } => flat_order(length, order),
+impl From<Result<Reply, Refusal>> for SciReply {
+    ghost from_gives = { λ reply numbers. numbers ≡ reply_numbers reply };
+
+    fn from(reply: Result<Reply, Refusal>) -> SciReply {
+        let zeros = SciReply::default();
+        match reply {
+            Ok(Reply { length, order }) => match order {
+                Order::Nothing => SciReply { length, ..zeros },
+                Order::Clear { timeout } => SciReply {
+                    length,
+                    order: 1,
+                    timeout,
+                    ..zeros
+                },
+                Order::Load { place, timeout } => SciReply {
+                    length,
+                    order: 2,
+                    place,
+                    timeout,
+                    ..zeros
+                },
+                Order::Unload { place, timeout } => SciReply {
+                    length,
+                    order: 3,
+                    place,
+                    timeout,
+                    ..zeros
+                },
+            },
+            Err(refusal) => SciReply {
+                refusal: refusal.into(),
+                ..zeros
+            },
+        }
     }
 }

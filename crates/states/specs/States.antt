@@ -1,14 +1,13 @@
 -- The states of all partitions of a drive: document 01, "Burning and counting", "Its state is one of four", and "Refusal numbers" 1 and 2. Assumes nothing.
-use Rattle.std.specs.Prelude.{ℕ, List, [], ◌∷◌, ◌++◌, drop}
+use Rattle.std.specs.Prelude.{ℕ, List, [], ◌∷◌, ◌++◌, drop, Result, Ok, Err}
 use Rattle.laws.specs.Below.{join_below}
-use Rattle.laws.specs.Refusals.{first_of}
+use Rattle.refusal.specs.Refusals.{first_of}
+use Rattle.refusal.specs.declared.Refusal.{Refusal}
 use Rattle.context.specs.State.{Outcome, outcome, refusing}
 use Rattle.map.specs.Map.{header_of}
 use Rattle.partition.specs.declared.State.{State}
 use Rattle.partition.specs.declared.State.TheVariants.{Erased, Torn, Blank, Programmed}
 use Rattle.drive.specs.Drive.{drive_tests, survey_at}
-use Rattle.states.specs.declared.Listing.{Listing}
-use Rattle.states.specs.declared.Listing.TheVariants.{Listed, Refused}
 
 -- the four states as numbers (ours), in document 01's order
 abbrev pub state_number : State → ℕ
@@ -40,7 +39,7 @@ abbrev pub lists : (states shorts : List ℕ) → Lists
 lists states shorts = record { states = states; shorts = shorts }
 
 -- every partition listed, or the lowest refusal that applies: 1 or 2
-abbrev pub listing_of : (image cells marks : List ℕ) → Lists → Outcome Listing Lists
+abbrev pub listing_of : (image cells marks : List ℕ) → Lists → Outcome (Result ℕ Refusal) Lists
 listing_of image cells marks l =
-    first_of (refusing Refused l) (drive_tests image cells marks)
-    (outcome (Listed (header_of image).partitions) (lists (states_after image cells l.states) (shorts_after image cells l.shorts)))
+    first_of (refusing Err l) (drive_tests image cells marks)
+    (outcome (Ok (header_of image).partitions) (lists (states_after image cells l.states) (shorts_after image cells l.shorts)))

@@ -8,6 +8,8 @@ ghost use Rattle.text.specs.Text.{digit, zeros, decimal};
 ghost use Rattle.laws.specs.Put.{Put};
 
 // Writes `t` into the buffer from `at` on, and answers the place past it.
+// Kept as a buffer and a place: a struct of both would have to be made, and its place given back, by every public
+// function that writes.
 pub fn put(out: &mut [u8], at: usize, t: &[u8]) -> usize
     requires { at + length t.now ≤ length out.old }
     ensures { Put at t.now out.old out.new result }
@@ -21,10 +23,11 @@ pub fn put(out: &mut [u8], at: usize, t: &[u8]) -> usize
 fn digit_of(v: usize) -> u8
     ensures { result ≡ digit v }
 {
-    (v % 10) as u8 + 48
+    b'0' + (v % 10) as u8
 }
 
 // How many of the four decimal digits of `v`, below 10,000, are leading zeros.
+// Kept as comparisons: `3 - v.checked_ilog10().unwrap_or(0)` is no plainer.
 fn leading_zeros(v: usize) -> usize
     ensures { (result ≡ zeros v) × (result ≤ 3) }
 {

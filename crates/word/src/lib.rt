@@ -5,105 +5,80 @@
 #![tactic(auto)]
 
 ghost use Rattle.std.specs.Prelude.{◌≡◌, ◌<◌};
-ghost use Rattle.map.specs.Map.{end_of};
-ghost use Rattle.word.specs.Word.{holds, partition_of, word_in, word_at};
+ghost use Rattle.laws.specs.Below.{found};
+ghost use Rattle.map.specs.Map.{header_of, end_of};
+ghost use Rattle.word.specs.Word.{is_held_at, partition_of, word_in, word_at};
 
 use map::Entry;
 
 // What a word holds.
-#[derive(Clone, Copy)]
+#[derive(Clone, Copy, PartialEq, Eq)]
 pub enum Role {
     Data,
     Digest,
     Indicator,
 }
 
-// The word that starts at a cell: its partition, what it holds, and whether it is a pair (`wide`)
-// or one cell; or none.
+// A word of a map: its partition, what it holds, and whether it is a pair (`wide`) or one cell.
 #[derive(Clone, Copy)]
-pub enum Lookup {
-    Word {
-        partition: u32,
-        role: Role,
-        wide: bool,
-    },
-    Nothing,
+pub struct Word {
+    pub partition: u32,
+    pub role: Role,
+    pub wide: bool,
 }
 
-// Whether a cell lies in a partition.
-fn holds_cell(x: Entry, cell: u32) -> bool
-    ensures { result ≡ holds x cell }
+// Whether partition `i` holds a cell.
+fn is_held_at(image: &[u8], cell: u32, i: u32) -> bool
+    ensures { result ≡ is_held_at image.now cell i }
 {
-    let end = map::end_of(x);
-    ((x.first as u32) <= cell) & ((cell as usize) < end)
+    let x = map::read_entry(image, i);
+    ((x.first as u32) <= cell) & ((cell as usize) < map::end_of(x))
 }
 
-// The partition that holds a cell, the number of partitions where none does.
-fn partition_of(image: &[u8], cell: u32) -> u32
-    ensures { result ≡ partition_of image.now cell }
+// The partition that holds a cell.
+fn partition_of(image: &[u8], cell: u32) -> Option<u32>
+    ensures { result ≡ found (header_of image.now).partitions (partition_of image.now cell) }
 {
-    let h = map::read_header(image);
-    let partitions = h.partitions as u32;
-    let mut i: u32 = 0;
-    while i < partitions {
-        let x = map::read_entry(image, i);
-        if holds_cell(x, cell) {
-            return i;
-        }
-        i += 1;
-    }
-    partitions
+    let partitions = map::read_header(image).partitions as u32;
+    (0..partitions).find(|i| is_held_at(image, cell, *i))
 }
 
-// The word that starts at a cell of partition `i`.
-fn word_in(x: Entry, i: u32, cell: u32) -> Lookup
+// The word that starts at a cell of a partition.
+fn word_in(x: Entry, partition: u32, cell: u32) -> Option<Word>
     requires { cell < end_of x }
-    ensures { result ≡ word_in x i cell }
+    ensures { result ≡ word_in x partition cell }
 {
     let left = map::end_of(x) - (cell as usize);
     let tail = partition::tail_cells(map::is_zeroizable(x));
     if tail < left {
-        if map::is_software(x) {
-            return Lookup::Word {
-                partition: i,
-                role: Role::Data,
-                wide: false,
-            };
+        let wide = !map::is_software(x);
+        if wide & (cell % 2 == 1) {
+            return None;
         }
-        if cell % 2 == 0 {
-            return Lookup::Word {
-                partition: i,
-                role: Role::Data,
-                wide: true,
-            };
-        }
-        return Lookup::Nothing;
+        return Some(Word {
+            partition,
+            role: Role::Data,
+            wide,
+        });
     }
-    if left == tail {
-        return Lookup::Word {
-            partition: i,
-            role: Role::Digest,
-            wide: true,
-        };
-    }
-    if left == 2 {
-        return Lookup::Word {
-            partition: i,
-            role: Role::Indicator,
-            wide: true,
-        };
-    }
-    Lookup::Nothing
+    let role = if left == tail {
+        Role::Digest
+    } else if left == 2 {
+        Role::Indicator
+    } else {
+        return None;
+    };
+    Some(Word {
+        partition,
+        role,
+        wide: true,
+    })
 }
 
 // The word that starts at a cell of the whole array.
-pub fn word_at(image: &[u8], cell: u32) -> Lookup
+pub fn word_at(image: &[u8], cell: u32) -> Option<Word>
     ensures { result ≡ word_at image.now cell }
 {
-    let h = map::read_header(image);
-    let i = partition_of(image, cell);
-    if i < (h.partitions as u32) {
-        return word_in(map::read_entry(image, i), i, cell);
-    }
-    Lookup::Nothing
+    let i = partition_of(image, cell)?;
+    word_in(map::read_entry(image, i), i, cell)
 }

@@ -2,7 +2,7 @@
 use Rattle.std.specs.Prelude.{ℕ, ◌<◌, List, [], ◌++◌}
 use Rattle.map.specs.Map.{header_of}
 use Rattle.reason.specs.declared.Reason.{Reason}
-use Rattle.reason.specs.declared.Reason.TheVariants.{Available, NoSlot, AllErased, Blank, Torn, Refused}
+use Rattle.reason.specs.declared.Reason.TheVariants.{Available, NoSlot, AllErased, Blank, Torn}
 use Rattle.reason.specs.Reason.{reason_in}
 use Rattle.text.specs.Text.{text, decimal}
 
@@ -14,14 +14,13 @@ slot_words i = text "hek none: the active slot, partition " ++ decimal i ++ text
 abbrev pub refused_words : (number : ℕ) → List ℕ
 refused_words number = text "refused " ++ decimal number
 
--- each reason in words; a drive that was judged is not refused, so that the last is never printed of one
+-- each reason in words
 abbrev pub reason_words : Reason → List ℕ
 reason_words Available = text "hek available"
 reason_words NoSlot = text "hek none: the map has no slot"
 reason_words AllErased = text "hek none: every slot is erased"
 reason_words (Blank i) = slot_words i ++ text "blank: it holds no seed"
 reason_words (Torn i cell ones) = slot_words i ++ text "torn"
-reason_words (Refused number) = refused_words number
 
 -- "torn also with its first short pair and that pair's ones", and the bound that they are below
 unfoldable pub pair_words : (bound cell ones : ℕ) → List ℕ
@@ -38,7 +37,6 @@ pair_part bound Available = []
 pair_part bound NoSlot = []
 pair_part bound AllErased = []
 pair_part bound (Blank i) = []
-pair_part bound (Refused number) = []
 
 -- the line of a reason
 abbrev pub reason_line : (bound : ℕ) → Reason → List ℕ
@@ -52,7 +50,6 @@ why_line image cells = reason_line (header_of image).bound (reason_in image cell
 abbrev pub SmallReason : Reason → Type 0
 SmallReason (Blank i) = i < 10000
 SmallReason (Torn i cell ones) = (i < 10000) × (cell < 10000) × (ones < 10000)
-SmallReason (Refused number) = number < 10000
 SmallReason Available = Unit {0}
 SmallReason NoSlot = Unit {0}
 SmallReason AllErased = Unit {0}

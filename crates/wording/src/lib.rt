@@ -1,14 +1,14 @@
 // A reason in words: the line that tells the desk why a drive offers no HEK (request P1), of a torn
 // slot with its pair; and a refusal, which every program prints so. The words are in `specs/Wording`,
-// the laws in `proofs/Laws`. It rests on `reason`, `map` and `text`, and below them on `cache`,
-// `context`, `drive`, `endian`, `fuse`, `laws` and `partition`.
+// the laws in `proofs/Laws`. It rests on `drive`, `reason`, `map` and `text`, and below them on
+// `cache`, `context`, `endian`, `fuse`, `laws`, `partition` and `refusal`.
 #![tactic(auto)]
 
 ghost use Rattle.std.specs.Prelude.{◌++◌, ◌+◌, ◌≤◌, ◌<◌, length};
 ghost use Rattle.laws.specs.Put.{Put};
-ghost use Rattle.drive.specs.Drive.{Whole};
 ghost use Rattle.wording.specs.Wording.{slot_words, refused_words, reason_words, pair_words, reason_line, why_line, SmallReason};
 
+use drive::Drive;
 use reason::Reason;
 
 // Writes what state the active slot, in this partition, is in.
@@ -34,7 +34,7 @@ pub fn put_refused(out: &mut [u8], number: u32) -> usize
     text::put_numbered(out, 0, b"refused ", number as usize)
 }
 
-// Writes a reason in words. A drive that was judged is not refused: that arm makes the match whole.
+// Writes a reason in words.
 fn put_words(out: &mut [u8], reason: Reason) -> usize
     requires { (72 ≤ length out.old) × SmallReason reason }
     ensures { Put 0 (reason_words reason) out.old out.new result × (result ≤ 72) }
@@ -44,12 +44,7 @@ fn put_words(out: &mut [u8], reason: Reason) -> usize
         Reason::NoSlot => text::put(out, 0, b"hek none: the map has no slot"),
         Reason::AllErased => text::put(out, 0, b"hek none: every slot is erased"),
         Reason::Blank { partition } => put_slot(out, partition, b"blank: it holds no seed"),
-        Reason::Torn {
-            partition,
-            cell: _,
-            ones: _,
-        } => put_slot(out, partition, b"torn"),
-        Reason::Refused(number) => put_refused(out, number),
+        Reason::Torn { partition, .. } => put_slot(out, partition, b"torn"),
     }
 }
 
@@ -70,12 +65,7 @@ fn put_reason(out: &mut [u8], reason: Reason, bound: u16) -> usize
     ensures { Put 0 (reason_line bound reason) out.old out.new result }
 {
     let at = put_words(out, reason);
-    let Reason::Torn {
-        partition: _,
-        cell,
-        ones,
-    } = reason
-    else {
+    let Reason::Torn { cell, ones, .. } = reason else {
         return text::put(out, at, b"\n");
     };
     let at = put_pair(out, at, cell, ones, bound);
@@ -83,10 +73,10 @@ fn put_reason(out: &mut [u8], reason: Reason, bound: u16) -> usize
 }
 
 // Writes why a drive that was judged offers no HEK.
-pub fn put_why(out: &mut [u8], image: &[u8], cells: &[u32]) -> usize
-    requires { Whole image.now cells.now × (147 ≤ length out.old) }
-    ensures { Put 0 (why_line image.now cells.now) out.old out.new result }
+pub fn put_why(out: &mut [u8], drive: Drive) -> usize
+    requires { 147 ≤ length out.old }
+    ensures { Put 0 (why_line drive.entry.image.now drive.entry.cells.now) out.old out.new result }
 {
-    let header = map::read_header(image);
-    put_reason(out, reason::reason_in(image, cells), header.bound)
+    let header = map::read_header(drive.image);
+    put_reason(out, reason::reason_in(drive), header.bound)
 }

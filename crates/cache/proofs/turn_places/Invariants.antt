@@ -1,11 +1,7 @@
 -- `cache::turn_places` meets its contract: the loop's invariant: the places below `k` are turned. Assumes nothing.
-use Prim.Native.Nat.{◌≤◌, ◌-◌}
 use mathlib.Core.Path.{◌≡◌}
 use Rattle.cache.specs.Cache.{turned_below}
 use Rattle.cache.proofs.turn_places.Given as goal
 
 abbrev pub invariant-loop-k : goal.invariant-loop-k
-invariant-loop-k l = (l.k ≤ 16) × (l.context ≡ turned_below l.sought l.kind l.k l.initial.context)
-
-abbrev pub decreases-loop-k : goal.decreases-loop-k
-decreases-loop-k l = 16 - l.k
+invariant-loop-k l = l.context ≡ turned_below l.sought l.kind l.k l.initial.context

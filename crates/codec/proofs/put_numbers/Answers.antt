@@ -1,17 +1,25 @@
--- `codec::put_numbers` meets its contract: the loop's invariant: the first `k` numbers are written. Assumes nothing.
-use Prim.Native.Nat.{ℕ}
-use mathlib.Core.Path.{ap, ◌∙◌}
-use mathlib.Core.List.{◌++◌}
-use native.Mathlib.Omega.{arith}
-use lib.ListN.{take}
+-- `codec::put_numbers` meets its contract: the loop's invariant: the numbers so far are written. Assumes nothing.
+use Rattle.std.proofs.Common.{◌≡◌, ◌+◌, arith, min}
 use Rattle.laws.specs.Put.{then, retext}
-use Rattle.endian.specs.Endian.{bytes4}
-use Rattle.codec.specs.Fields.{written, numbers_in}
-use Rattle.codec.proofs.Laws.{written_next}
+use Rattle.codec.proofs.Laws.{written_most, written_next}
 use Rattle.codec.proofs.put_numbers.Goals as goal
+use Rattle.codec.proofs.put_numbers.Goals.{then-k-count, else-k-count}
+
+pub put_u32-end-requires : goal.put_u32-end-requires
+put_u32-end-requires c =
+    let done = c.loop-k.invariant in
+    let all : min c.loop-k.k c.args.count ≡ c.loop-k.k = omega (arith, c.if-k-count.true) in
+    omega (arith, done.is_next, done.same, written_most c.args.numbers (min c.loop-k.k c.args.count), all, c.if-k-count.true, c.requires)
 
 pub loop-k-preserved : goal.loop-k-preserved
 loop-k-preserved c =
-    let numbers = numbers_in c.args.numbers in
-    let next = ap (λ (v : ℕ). written (take c.loop-k.k numbers) ++ bytes4 v) c.number_at.ensures ∙ written_next numbers c.loop-k.k (omega arith) in
-    (omega arith, retext next (then c.loop-k.invariant.1 c.put_u32-end.ensures))
+    elim c.if-k-count.branch [
+      | then-k-count w ↦
+          (let all : min c.loop-k.k c.args.count ≡ c.loop-k.k = omega (arith, w.if-k-count.true) in
+          let next : min (c.loop-k.k + 1) c.args.count ≡ c.loop-k.k + 1 = omega (arith, w.if-k-count.true) in
+          rw (w.out-is, w.end-is, next)
+          (retext (written_next c.args.numbers c.loop-k.k (omega (arith, c.loop-k-test.true))) (then (rw all at c.loop-k.invariant) w.put_u32-end.ensures)))
+      | else-k-count w ↦
+          (let same : min (c.loop-k.k + 1) c.args.count ≡ min c.loop-k.k c.args.count = omega (arith, w.if-k-count.false) in
+          rw (w.out-is, w.end-is, same) c.loop-k.invariant)
+    ]

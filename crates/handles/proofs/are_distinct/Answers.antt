@@ -1,6 +1,7 @@
--- `handles::are_distinct` meets its contract: by how many handles there are. Assumes nothing.
+-- `handles::are_distinct` meets its contract: fewer than two handles are distinct. Assumes nothing.
+use Rattle.std.proofs.Common.{arith}
 use Rattle.handles.specs.Laws.{distinct_one}
 use Rattle.handles.proofs.are_distinct.Goals as goal
 
-pub returns-then-handles-lt2 : goal.returns-then-handles-lt2
-returns-then-handles-lt2 c = distinct_one c.args.handles.now c.if-handles-lt2.true
+pub returns-in_default : goal.returns-in_default
+returns-in_default c = distinct_one c.args.handles.now (omega (arith, c.in_default.len_below, c.requires))

@@ -1,30 +1,11 @@
--- `handles::lowest_with` meets its contract: one place after the other. Assumes nothing.
-use mathlib.Core.Path.{sym, ◌∙◌}
-use Rattle.laws.specs.Below.{first_from}
+-- `handles::lowest_with` meets its contract: its search over the places answers for the whole. Assumes nothing.
+use Rattle.std.proofs.Common.{◌≡◌, true, false, rules}
+use Rattle.std.proofs.lemmas.Iterator.{first_from_Range}
+use Rattle.laws.proofs.Below.{search_found}
+use Rattle.handles.specs.Handles.{table_of, is_held_at}
 use Rattle.handles.proofs.lowest_with.Goals as goal
 
-pub returns-then-holds_at : goal.returns-then-holds_at
-unfolding first_from
-returns-then-holds_at c = rw (sym c.holds_at.ensures ∙ c.if-holds_at.true)
-
-pub returns-then-holds_at-2 : goal.returns-then-holds_at-2
-unfolding first_from
-returns-then-holds_at-2 c = rw (sym c.holds_at.ensures ∙ c.if-holds_at.false, sym c.holds_at-2.ensures ∙ c.if-holds_at-2.true)
-
-pub returns-then-holds_at-3 : goal.returns-then-holds_at-3
-unfolding first_from
-returns-then-holds_at-3 c =
-    rw (
-      sym c.holds_at.ensures ∙ c.if-holds_at.false,
-      sym c.holds_at-2.ensures ∙ c.if-holds_at-2.false,
-      sym c.holds_at-3.ensures ∙ c.if-holds_at-3.true,
-    )
-
 pub returns : goal.returns
-unfolding first_from
 returns c =
-    rw (
-      sym c.holds_at.ensures ∙ c.if-holds_at.false,
-      sym c.holds_at-2.ensures ∙ c.if-holds_at-2.false,
-      sym c.holds_at-3.ensures ∙ c.if-holds_at-3.false,
-    )
+    let is = is_held_at (table_of c.args.context.now) c.args.handle in
+    search_found is 3 _ (first_from_Range _ _ _ _ (λ k. is k ≡ true) (λ k. is k ≡ false) c.find.ensures.ran (λ k q h. search rules) (λ k q h. (search rules, search rules)))

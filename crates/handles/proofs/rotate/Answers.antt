@@ -5,4 +5,4 @@ use Rattle.handles.proofs.rotate.Goals as goal
 pub returns-then-k-lt-MOST : goal.returns-then-k-lt-MOST
 returns-then-k-lt-MOST c =
     let a = c.args in
-    rw (c.entry_of.ensures, c.algorithm_at-algorithm.ensures) (rotated_in a.k a.number a.context.now c.if-k-lt-MOST.true)
+    rw (c.from.ensures, c.entry_at-algorithm.ensures.algorithm) (rotated_in a.k a.number a.context.now c.if-k-lt-MOST.true)

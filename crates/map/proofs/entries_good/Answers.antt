@@ -1,25 +1,23 @@
--- `map::entries_good` meets its contract: the loop's invariant: the entries below `i` are good, the last of them ends at `end`, and the next starts at `at`. Assumes nothing.
+-- `map::entries_good` meets its contract: an entry more is judged by its own bytes. Assumes nothing.
 use Prim.Native.Nat.{◌+◌, ◌*◌}
 use mathlib.Core.Path.{◌≡◌, refl, sym, ap, ◌∙◌}
-use native.Mathlib.Omega.{arith}
 use Rattle.laws.specs.Below.{all_below}
 use Rattle.laws.proofs.Below.{all_step, all_fails}
 use Rattle.map.specs.declared.Header.{Header}
 use Rattle.map.specs.Map.{entry_at, end_of, place_good}
 use Rattle.map.proofs.Laws.{end_next, entry_own, spare_own, place_is}
-use Rattle.std.proofs.Common.{rules}
 use Rattle.map.proofs.entries_good.Goals as goal
 use Rattle.map.proofs.entries_good.Goals.{After-entry_good}
 
 pub loop-i-init : goal.loop-i-init
 unfolding all_below
-loop-i-init c = (search rules, omega arith, refl, refl)
+loop-i-init c = (refl, refl)
 
 -- it is read from its own bytes, at its own place: so what entry_good answers is the rule of entry i
 judged : (c : After-entry_good) → c.entry_good.result ≡ place_good c.args.image.now c.loop-i.i
 judged c =
-    place_is _ _ _ _ _ _ _ _ c.loop-i.invariant.2 (ap (λ (h : Header). h.cells) c.requires.0)
-    (c.loop-i.invariant.1 ∙ ap (λ (h : Header). h.offset + 8 * c.loop-i.i) c.requires.0)
+    place_is _ _ _ _ _ _ _ _ c.loop-i.invariant.0 (ap (λ (h : Header). h.cells) c.requires.0)
+    (ap (λ (h : Header). h.offset + 8 * c.loop-i.i) c.requires.0)
     (c.entry_at-x.ensures ∙ entry_own _ _) (c.u16_at-spare.ensures ∙ spare_own _ _) c.entry_good.ensures
 
 pub returns-then-not-entry_good : goal.returns-then-not-entry_good
@@ -27,11 +25,8 @@ returns-then-not-entry_good c = sym (all_fails _ _ _ c.loop-i-test.true (sym (ju
 
 pub loop-i-preserved : goal.loop-i-preserved
 loop-i-preserved c = (
-  omega arith,
-  omega (arith, c.loop-i.invariant.1),
   c.end_of-end.ensures
-      ∙ ap end_of
-      (c.entry_at-x.ensures ∙ entry_own _ _ ∙ ap (entry_at _) (c.loop-i.invariant.1 ∙ ap (λ (h : Header). h.offset + 8 * c.loop-i.i) c.requires.0))
+      ∙ ap end_of (c.entry_at-x.ensures ∙ entry_own _ _ ∙ ap (entry_at _) (ap (λ (h : Header). h.offset + 8 * c.loop-i.i) c.requires.0))
       ∙ sym (end_next _ _),
-  all_step _ _ c.loop-i.invariant.3 (sym (judged (goal.at.loop-i-preserved c).After-entry_good) ∙ c.if-not-entry_good.false),
+  all_step _ _ c.loop-i.invariant.1 (sym (judged (goal.at.loop-i-preserved c).After-entry_good) ∙ c.if-not-entry_good.false),
 )

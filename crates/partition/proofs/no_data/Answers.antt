@@ -1,19 +1,15 @@
--- `partition::no_data` meets its contract: the loop's invariant: the cells below `k` are zero. Assumes nothing.
-use mathlib.Core.Path.{refl, sym}
-use native.Mathlib.Omega.{arith}
-use Rattle.laws.specs.Below.{all_below}
-use Rattle.laws.proofs.Below.{all_step, all_fails}
-use Rattle.partition.proofs.Laws.{zero_cell_lem, not_zero_cell}
+-- `partition::no_data` meets its contract: by `zeros`. Assumes nothing.
+use Rattle.std.proofs.Common.{rules, tests, ◌∙◌, arith}
+use Rattle.std.specs.Prelude.{take, eqb}
+use Rattle.std.proofs.lemmas.Iterator.{YieldsList-from_slice}
+use Rattle.std.proofs.lemmas.Iterator.Search.{all_from_yields_List}
+use Rattle.partition.specs.Partition.{data_cells}
+use Rattle.partition.proofs.Chains.{zeros}
 use Rattle.partition.proofs.no_data.Goals as goal
 
-pub loop-k-init : goal.loop-k-init
-unfolding all_below
-loop-k-init c = (omega arith, refl)
-
-pub returns-then-part-k-ne0 : goal.returns-then-part-k-ne0
-returns-then-part-k-ne0 c =
-    let end = c.tail_cells-tail.ensures.0 in
-    rw (← end) (sym (all_fails _ _ _ (omega arith) (not_zero_cell _ _ c.if-part-k-ne0.true)))
-
-pub loop-k-preserved : goal.loop-k-preserved
-loop-k-preserved c = (omega arith, all_step _ _ c.loop-k.invariant.1 (zero_cell_lem _ _ c.if-part-k-ne0.false))
+pub returns : goal.returns
+returns c =
+    let part = c.args.part.now in
+    let d = data_cells c.args.zeroizable part in
+    all_from_yields_List (λ x. eqb x 0) _ _ c.all.result c.all.ensures.ran (YieldsList-from_slice (take d part) cc) (λ x b q k. search (rules, tests))
+    ∙ zeros part d (omega arith)

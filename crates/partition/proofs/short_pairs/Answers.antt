@@ -1,4 +1,4 @@
--- `partition::short_pairs` meets its contract: the loop's invariant: `short` pairs below `j` are short. Assumes nothing.
+-- `partition::short_pairs` meets its contract: a pair more is counted if it is short. Assumes nothing.
 use mathlib.Core.Path.{refl, sym, ◌∙◌}
 use mathlib.Core.Bool.{true, false}
 use native.Mathlib.Omega.{arith}
@@ -10,7 +10,7 @@ use Rattle.partition.proofs.short_pairs.Goals.{else-short_at, then-short_at}
 
 pub loop-j-init : goal.loop-j-init
 unfolding count_below
-loop-j-init c = (omega arith, refl)
+loop-j-init c = refl
 
 pub overflow_add-short : goal.overflow_add-short
 overflow_add-short c =

@@ -1,4 +1,4 @@
--- `partition::shorts_of` meets its contract: no lowest where none is short, else the one that was found. Assumes nothing.
+-- `partition::shorts_of` meets its contract: no lowest where none is short. Assumes nothing.
 use mathlib.Core.Path.{sym, ◌∙◌}
 use Rattle.partition.proofs.Laws.{no_lowest}
 use Rattle.partition.proofs.shorts_of.Goals as goal
@@ -6,4 +6,4 @@ use Rattle.partition.proofs.shorts_of.Goals as goal
 pub returns-then-count-eq0 : goal.returns-then-count-eq0
 returns-then-count-eq0 c =
     let none = sym c.short_pairs-count.ensures ∙ c.if-count-eq0.true in
-    rw (none, ← no_lowest _ _ none)
+    rw (c.if-count-eq0.true, none, ← no_lowest _ _ none)

@@ -25,13 +25,13 @@ returns-then-short-short_at c =
     let test = besides_by _ _ (some (goal.at.returns-then-short-short_at c).Then-is_marked) c.short_pairs-short.ensures c.short_at.ensures in
     cc (erased_is _ _ _ (sym c.is_marked.ensures ∙ c.if-is_marked.true) (eqb-true _ _ (sym test ∙ c.if-short-short_at.true)))
 
-pub returns-then-is_marked : goal.returns-then-is_marked
-returns-then-is_marked c =
-    let test = besides_by _ _ (some (goal.at.returns-then-is_marked c).Then-is_marked) c.short_pairs-short.ensures c.short_at.ensures in
+pub returns-else-short-short_at : goal.returns-else-short-short_at
+returns-else-short-short_at c =
+    let test = besides_by _ _ (some (goal.at.returns-else-short-short_at c).Then-is_marked) c.short_pairs-short.ensures c.short_at.ensures in
     cc (torn_is _ _ _ (sym c.is_marked.ensures ∙ c.if-is_marked.true) (eqb-false _ _ (sym test ∙ c.if-short-short_at.false)))
 
 pub returns-then-no_data : goal.returns-then-no_data
 returns-then-no_data c = cc (blank_is _ _ _ (sym c.is_marked.ensures ∙ c.if-is_marked.false) (sym c.no_data.ensures ∙ c.if-no_data.true))
 
-pub returns : goal.returns
-returns c = cc (programmed_is _ _ _ (sym c.is_marked.ensures ∙ c.if-is_marked.false) (sym c.no_data.ensures ∙ c.if-no_data.false))
+pub returns-else-no_data : goal.returns-else-no_data
+returns-else-no_data c = cc (programmed_is _ _ _ (sym c.is_marked.ensures ∙ c.if-is_marked.false) (sym c.no_data.ensures ∙ c.if-no_data.false))

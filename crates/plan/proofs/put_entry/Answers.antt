@@ -1,7 +1,11 @@
--- `plan::put_entry` meets its contract: first and cells, then kind and flags as one u16. Assumes nothing.
-use Rattle.laws.specs.Put.{then, retext}
-use Rattle.plan.proofs.Images.{entry_is}
+-- `plan::put_entry` meets its contract: first and cells, and then kind, flags and two zero bytes. Assumes nothing.
+use Rattle.std.proofs.Common.{◌∙◌}
+use Rattle.laws.specs.Put.{then}
+use Rattle.plan.proofs.Images.{le_bytes}
 use Rattle.plan.proofs.put_entry.Goals as goal
 
 pub returns : goal.returns
-returns c = retext (entry_is _ _ _ _ c.requires.1 c.requires.2) (then c.put_two-at.ensures c.put_two.ensures)
+returns c =
+    let first = rw (c.to_le_bytes.ensures ∙ le_bytes c.args.first c.ranges.first.fits) at c.put-at.ensures in
+    let n = rw (c.to_le_bytes-2.ensures ∙ le_bytes c.args.n c.ranges.n.fits) at c.put-at-2.ensures in
+    then (then first n) c.put.ensures

@@ -6,14 +6,14 @@ use Rattle.reason.proofs.torn_reason.Goals as goal
 use Rattle.reason.proofs.torn_reason.Goals.{After-torn_pair-pair}
 
 pub torn_pair-pair-requires : goal.torn_pair-pair-requires
-torn_pair-pair-requires c = some_here _ _ _ c.requires.1 c.read_header-header.ensures c.part_of-part.ensures
+torn_pair-pair-requires c = some_here _ _ _ c.requires c.read_header-header.ensures c.part.ensures
 
 -- the pair lies in the array, and has at most 64 ones
 small : (c : After-torn_pair-pair) → let pair = c.torn_pair-pair.result in
     (c.read_entry-entry.result.first + pair.cell < 2048) × (pair.ones ≤ 64)
 small c =
-    torn_fits _ _ _ c.requires.1 c.read_header-header.ensures c.part_of-part.ensures c.read_entry-entry.ensures c.torn_pair-pair.ensures
-    c.requires.0.good
+    torn_fits _ _ _ c.requires c.read_header-header.ensures c.part.ensures c.read_entry-entry.ensures c.torn_pair-pair.ensures
+    c.args.drive.whole.good
 
 pub overflow_cast-result-2 : goal.overflow_cast-result-2
 overflow_cast-result-2 c = omega (arith, (small (goal.at.overflow_cast-result-2 c).After-torn_pair-pair).0)

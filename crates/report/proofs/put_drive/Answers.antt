@@ -1,35 +1,36 @@
--- `report::put_drive` meets its contract: what an accepted input tells is what each call asks. Assumes nothing.
-use mathlib.Core.Path.{◌≡◌}
+-- `report::put_drive` meets its contract: a good map has at most 2,048 cells, and as many are read. Assumes nothing.
+use Prim.Native.Nat.{ℕ}
+use mathlib.Core.Path.{◌≡◌, ap, ◌∙◌}
 use native.Mathlib.Omega.{arith}
-use lib.ListN.{take, length-take}
-use Rattle.report.specs.Status.{input_cells}
-use Rattle.report.specs.Laws.{Taken}
-use Rattle.report.proofs.Laws.{accepted, taken, cells_are, cells_long}
+use lib.ListN.{length, length-take, length-replicate}
+use Rattle.laws.specs.Below.{join_below}
+use Rattle.laws.specs.Put.{retext}
+use Rattle.map.specs.Map.{header_of}
+use Rattle.report.specs.Status.{number_at}
+use Rattle.report.specs.Report.{output_of}
+use Rattle.report.proofs.Laws.{counts}
 use Rattle.report.proofs.put_drive.Goals as goal
-use Rattle.report.proofs.put_drive.Goals.{After-numbers-3-1, After-read_header-header}
-
--- what the accepted input says of what was read of it
-told : (c : After-read_header-header) → Taken c.args.input.now c.u16_at.result c.read_header-header.result
-told c = taken _ _ _ c.requires.0 c.u16_at.ensures c.read_header-header.ensures
-
-pub slice_bounds-image-end : goal.slice_bounds-image-end
-slice_bounds-image-end c = let a = accepted _ c.requires.0 in omega arith
-
-pub read_cells-requires : goal.read_cells-requires
-read_cells-requires c = let t = told (goal.at.read_cells-requires c).After-read_header-header in omega arith
 
 pub slice_bounds-numbers-end : goal.slice_bounds-numbers-end
-slice_bounds-numbers-end c = let t = told (goal.at.slice_bounds-numbers-end c).After-read_header-header in omega (arith, c.read_cells.auto.cells)
+slice_bounds-numbers-end c = (counts _ c.requires.0 c.read_header-count.ensures).3
 
-pub slice_bounds-put_output-end : goal.slice_bounds-put_output-end
-slice_bounds-put_output-end c = let t = told (goal.at.slice_bounds-put_output-end c).After-read_header-header in simp length-take (omega (arith, c.read_cells.auto.cells))
+pub slice_bounds-cells-end : goal.slice_bounds-cells-end
+slice_bounds-cells-end c =
+    let p = counts _ c.requires.0 c.read_header-count.ensures in
+    simp (length-take, length-replicate) (omega arith)
 
--- the cells that were read are the input's
-read : (c : After-numbers-3-1) → take c.read_header-header.result.cells c.read_cells.new.cells ≡ input_cells c.args.input.now
-read c =
-    cells_are _ _ _ _ _ c.u16_at.ensures ((taken _ _ _ c.requires.0 c.u16_at.ensures c.read_header-header.ensures)).count c.read_cells.ensures
+pub invariant_of-put_output : goal.invariant_of-put_output
+invariant_of-put_output c =
+    let p = counts _ c.requires.0 c.read_header-count.ensures in
+    let long : length c.read_cells.new.cells ≡ c.read_header-count.result.cells =
+    c.read_cells.auto.cells ∙ simp (length-take, length-replicate) (omega arith) in
+    record { whole = record { good = c.requires.0; long = omega arith } }
 
-pub put_output-requires : goal.put_output-requires
-put_output-requires c =
-    let t = told (goal.at.put_output-requires c).After-read_header-header in
-    (rw (t.image, read (goal.at.put_output-requires c).After-numbers-3-1) (record { good = t.good; long = cells_long _ }), c.requires.1)
+pub returns : goal.returns
+returns c =
+    let p = counts _ c.requires.0 c.read_header-count.ensures in
+    let long : length c.read_cells.new.cells ≡ c.read_header-count.result.cells =
+    c.read_cells.auto.cells ∙ simp (length-take, length-replicate) (omega arith) in
+    let read : c.read_cells.new.cells ≡ join_below (number_at c.args.arrays.now 0) (header_of c.args.image.now).cells =
+    c.read_cells.ensures ∙ ap (λ (n : ℕ). join_below (number_at c.args.arrays.now 0) n) (long ∙ p.2) in
+    retext (ap (output_of c.args.view c.args.image.now) read) c.put_output.ensures

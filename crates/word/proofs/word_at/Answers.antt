@@ -1,12 +1,13 @@
--- `word::word_at` meets its contract: the partition that was found holds the cell, so `word_in` may be asked. Assumes nothing.
-use Rattle.word.specs.Laws.{found_in, word_found, word_none}
+-- `word::word_at` meets its contract: by the partition that holds the cell. Assumes nothing.
+use Rattle.std.proofs.Common.{rules}
+use Rattle.word.specs.Laws.{word_found, word_none, found_holds}
 use Rattle.word.proofs.word_at.Goals as goal
 
-pub word_in-requires : goal.word_in-requires
-word_in-requires c = found_in _ _ _ _ c.read_header-h.ensures c.partition_of-i.ensures _ c.if-i-h.true c.read_entry.ensures
+pub returns-in_err-i : goal.returns-in_err-i
+returns-in_err-i c = rw c.from_residual.ensures (word_none _ _ c.in_err-i.ensures)
 
-pub returns-then-i-h : goal.returns-then-i-h
-returns-then-i-h c = word_found _ _ _ _ c.read_header-h.ensures c.partition_of-i.ensures _ _ c.if-i-h.true c.read_entry.ensures c.word_in.ensures
+pub word_in-requires : goal.word_in-requires
+word_in-requires c = found_holds _ _ c.in_ok-i.ensures c.read_entry.ensures
 
 pub returns : goal.returns
-returns c = word_none _ _ _ _ c.read_header-h.ensures c.partition_of-i.ensures c.if-i-h.false
+returns c = word_found _ _ c.in_ok-i.ensures c.read_entry.ensures c.word_in.ensures

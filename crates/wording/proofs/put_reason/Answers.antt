@@ -5,7 +5,7 @@ use mathlib.Core.List.{[]}
 use native.Mathlib.Omega.{arith}
 use Rattle.laws.specs.Put.{then, nothing}
 use Rattle.reason.specs.declared.Reason.{Reason}
-use Rattle.reason.specs.declared.Reason.TheVariants.{Available, NoSlot, AllErased, Blank, Torn, Refused}
+use Rattle.reason.specs.declared.Reason.TheVariants.{Available, NoSlot, AllErased, Blank, Torn}
 use Rattle.wording.specs.Wording.{pair_words, pair_part}
 use Rattle.wording.proofs.put_reason.Goals as goal
 
@@ -16,7 +16,6 @@ no_pair bound NoSlot k = refl
 no_pair bound AllErased k = refl
 no_pair bound (Blank i) k = refl
 no_pair bound (Torn i cell ones) k = absurd (k i cell ones refl)
-no_pair bound (Refused number) k = refl
 
 -- and a torn slot has the one that its variant holds
 a_pair : (bound : ℕ) {reason : Reason} {i cell ones : ℕ} → reason ≡ Torn i cell ones → pair_part bound reason ≡ pair_words bound cell ones

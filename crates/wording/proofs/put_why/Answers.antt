@@ -10,7 +10,7 @@ use Rattle.wording.proofs.put_why.Goals as goal
 
 pub put_reason-requires : goal.put_reason-requires
 put_reason-requires c =
-    let good = c.requires.0.good in
+    let good = c.args.drive.whole.good in
     let bound = ap (λ (h : Header). h.bound) c.read_header-header.ensures in
     (search rules, small_reason _ _ good c.reason_in.ensures, omega (arith, bound, (map_header _ good).bound_most))
 

@@ -1,9 +1,15 @@
 -- `mailbox::effects::unload_effect` meets its contract: at what was read. Assumes nothing.
-use mathlib.Core.Path.{refl, ◌∙◌}
+use mathlib.Core.Path.{refl, ap, ◌∙◌}
+use Prim.Native.Nat.{ℕ}
+use Rattle.std.specs.Prelude.{Option, unwrap_or}
+use Rattle.laws.proofs.Below.{found_or}
+use Rattle.cache.specs.Cache.{cache_of, is_at}
+use Rattle.cache.specs.declared.Sought.TheVariants.{Tag}
 use Rattle.codec.specs.declared.Command.TheVariants.{Kunl}
 use Rattle.mailbox.proofs.effects.unload_effect.Goals as goal
 
 pub returns : goal.returns
 returns c =
+    let place = c.unwrap_or-place.ensures ∙ ap (λ (o : Option ℕ). unwrap_or o 16) c.lowest_place.ensures ∙ found_or (is_at (cache_of c.args.context.now) (Tag c.tag_of-tag.result)) 16 in
     c.effect_with.ensures
-    ∙ rw (c.no_numbers.ensures, c.lowest_place.ensures.0, c.tag_of-tag.ensures Kunl refl, c.timeout_of.ensures Kunl refl)
+    ∙ rw (c.no_numbers.ensures, place, c.tag_of-tag.ensures Kunl refl, c.timeout_of.ensures Kunl refl)

@@ -1,6 +1,0 @@
--- `drive::survey_at` meets its contract: at the terms and the part that were read. Assumes nothing.
-use Rattle.drive.specs.Laws.{survey_is}
-use Rattle.drive.proofs.survey_at.Goals as goal
-
-pub returns : goal.returns
-returns c = survey_is _ _ _ _ _ c.terms_of-terms.ensures c.part_of.ensures _ c.survey_cells.ensures

@@ -1,0 +1,13 @@
+-- `mailbox::judge::check_load` meets its contract: at the tag that was read. Assumes nothing.
+use Rattle.std.proofs.Common.{rules, refl}
+use Rattle.codec.specs.declared.Command.TheVariants.{Klod}
+use Rattle.mailbox.proofs.judge.check_load.Goals as goal
+
+pub returns-then-has_place : goal.returns-then-has_place
+returns-then-has_place c = let tag = c.tag_of.ensures Klod refl in search (rules, tag)
+
+pub returns-then-not-has_place : goal.returns-then-not-has_place
+returns-then-not-has_place c = let tag = c.tag_of.ensures Klod refl in search (rules, tag)
+
+pub returns : goal.returns
+returns c = let tag = c.tag_of.ensures Klod refl in search (rules, tag)
