@@ -8,7 +8,7 @@ use Rattle.std.proofs.lemmas.Bool.{false≢true}
 use Rattle.std.proofs.Math.Seq.{drop-append-add}
 use Rattle.laws.specs.Tests.{decided, cond_keeps, not_yes, and, is_yes_lem, neither}
 use Rattle.refusal.specs.Refusals.{test_at, refusal_at, Past, refused_at, past_all, judged}
-use Rattle.laws.specs.Put.{Put}
+use Rattle.laws.specs.Put.{Put, then, retext}
 use Rattle.endian.specs.Endian.{u32_at, u32_at_lem, bytes4}
 use Rattle.chksum.specs.Chksum.{closed, response_sum}
 use Rattle.chksum.specs.Laws.{closed_is}
@@ -223,6 +223,12 @@ written_append (v ∷ a) b = ap (λ (l : List ℕ). bytes4 v ++ l) (written_appe
 
 pub written_next : (numbers : List ℕ) (k : ℕ) → k < length numbers → written (take k numbers) ++ bytes4 (get_or numbers k 0) ≡ written (take (k + 1) numbers)
 written_next numbers k l = rw (add-one, take-suc numbers k 0) (sym (written_append (take k numbers) (get_or numbers k 0 ∷ [])))
+
+-- one number more, whatever the code calls it
+pub written_more : (numbers : List ℕ) (k : ℕ) {v at next last : ℕ} {before middle after : List ℕ} → k < length numbers
+    → Put at (written (take k numbers)) before middle next → Put next (bytes4 v) middle after last → v ≡ get_or numbers k 0
+    → Put at (written (take (k + 1) numbers)) before after last
+written_more numbers k l p q e = retext (written_next numbers k l) (then p (rw e at q))
 
 written_long : (numbers : List ℕ) → length (written numbers) ≡ 4 * length numbers
 written_long [] = refl

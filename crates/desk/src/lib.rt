@@ -7,10 +7,10 @@
 // the library's standard streams.
 #![tactic(auto)]
 
-ghost use Rattle.std.specs.Prelude.{◌≡◌, IfOk, OnOk};
+ghost use Rattle.std.specs.Prelude.{◌≡◌, IfSome, OnOk};
 ghost use Rattle.std.specs.Io.KnownBytes.{Appends};
 ghost use Rattle.report.specs.declared.Stream.TheVariants.{Output, Errors};
-ghost use Rattle.desk.specs.Intake.{Taken};
+ghost use Rattle.desk.specs.Intake.{intake_of, Taken};
 
 use report::{Failure, Program, Stream};
 use std::io;
@@ -22,7 +22,7 @@ use std::io::{Read, Write};
 // `read_to_end` wants a heap.)
 #[tactic(auto, using(crate::proofs::Laws::read_on))]
 fn take_in<R: Read>(from: &mut R, buf: &mut [u8]) -> io::Result<usize>
-    ensures { IfOk result (λ count. Taken (R.remaining from.old) (R.remaining from.new) buf.new count) }
+    ensures { IfSome (intake_of result) (λ count. Taken (R.remaining from.old) (R.remaining from.new) buf.new count) }
 {
     let mut done = 0;
     while done < buf.len() {

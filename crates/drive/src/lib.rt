@@ -1,10 +1,10 @@
 // A whole drive: map image, fuse cells and stuck marks together. The refusals that every call
 // shares, a partition's state, the active slot with its HEK, and whether a slot may not change, since
 // a place of the cache is not empty. The entry point is `check_drive`, which answers for any bytes and
-// any lengths; a `Drive` is made of what it has accepted, and its methods ask for nothing more of the
-// drive. The definitions are in `specs/Drive`, the laws for callers in `specs/Laws` and, of the active
-// slot, in `specs/Active`. It rests on `map`, `partition`, `cache` and `refusal`, and below them on
-// `context`, `endian` and `laws`.
+// any lengths; a `Drive` is made of what it, or a program's own reading, has accepted, and its methods
+// ask for nothing more of the drive. The definitions are in `specs/Drive`, the laws for callers in
+// `specs/Laws` and, of the active slot, in `specs/Active`. It rests on `map`, `partition`, `cache` and
+// `refusal`, and below them on `context`, `endian` and `laws`.
 #![tactic(auto)]
 
 ghost use Rattle.std.specs.Prelude.{◌≡◌, ◌<◌};
@@ -19,7 +19,7 @@ use refusal::Refusal;
 
 // The active slot's partition by the slot's state, or that there is none. The HEK is available from
 // a programmed slot alone.
-// Kept with its own case for none: document 01 tells all four in one number, and an Option of three tells no more.
+// Kept with its own case for none: an Option of an enum of three is no plainer than four cases.
 #[derive(Clone, Copy)]
 pub enum ActiveSlot {
     Programmed(u32),

@@ -19,7 +19,7 @@ pub fn u16_at(bytes: &[u8], k: usize) -> u16
     ensures { result ≡ u16_at bytes.now k }
 {
     if 2 <= bytes.len() && k <= bytes.len() - 2 {
-        u16::from_le_bytes([bytes[k], bytes[k + 1]])
+        u16::from(bytes[k]) + 256 * u16::from(bytes[k + 1])
     } else {
         u16::from(byte_at(bytes, k))
     }
@@ -38,10 +38,14 @@ pub fn u32_at(bytes: &[u8], k: usize) -> u32
 }
 
 // Writes the four bytes of `v` into the buffer from `at` on, and answers the place past them.
+// Kept as four stores: `to_le_bytes` is an array, and by P3 no array of ours holds response bytes.
 pub fn put_u32(out: &mut [u8], at: usize, v: u32) -> usize
     requires { at + 4 ≤ length out.old }
     ensures { Put at (bytes4 v) out.old out.new result }
 {
-    out[at..at + 4].copy_from_slice(&v.to_le_bytes());
+    out[at] = (v % 256) as u8;
+    out[at + 1] = (v / 256 % 256) as u8;
+    out[at + 2] = (v / 65536 % 256) as u8;
+    out[at + 3] = (v / 16777216) as u8;
     at + 4
 }

@@ -45,6 +45,12 @@ use Rattle.history.specs.Calls.{Answering, Erasing, Replying, Taking, Making, le
 use Rattle.history.specs.Refused.{Unchanged}
 
 -- a direct command that is carried out is not refused
+carried_answers : (command : Command) (x : Entry) (wide : Bool) (bound word new : ℕ) → refusal (Answering (Ok (answer_of command x wide bound word new))) ≡ 0
+carried_answers command x wide bound word new = refl
+
+not_refused : (command : Command) (x : Entry) (wide : Bool) (bound word new : ℕ) → 1 ≤ refusal (Answering (Ok (answer_of command x wide bound word new))) → ⊥
+not_refused command x wide bound word new l = omega (arith, carried_answers command x wide bound word new)
+
 -- what is done and told is no refusal
 pub done_not : (d : Result Effect Refusal) → is_ok d ≡ true → refusal (Replying (reply_of d) []) ≡ 0
 done_not (Ok e) k = refl

@@ -176,6 +176,10 @@ module _ (image marks : List ℕ) (code : ℕ) (request : List ℕ) (l : Lent) w
       → outcome (Err r) (lent (with_cells cells l.state) l.response l.block) ≡ mailbox_of image marks code request l
   refused_left d = ap (written_out request l) d
 
+  -- what is found of a call that is refused is that refusal, and orders nothing
+  pub is_refused : {r : Refusal} {cells : List ℕ} → outcome (Err r) cells ≡ done → (done.told ≡ Err r) × (order_done done.told ≡ Nothing)
+  is_refused {r} d = subst (λ (o : Outcome (Result Effect Refusal) (List ℕ)). (o.told ≡ Err r) × (order_done o.told ≡ Nothing)) d (refl, refl)
+
   module _ {e : Effect} {cells : List ℕ} (d : outcome (Ok e) cells ≡ done) where
     pub carried : Carried code e.order request l.response l.block
     unfolding done_of request_tests

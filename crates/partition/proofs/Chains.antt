@@ -1,13 +1,13 @@
 -- What the chains of iterators here answer, in the words of `laws` `Below`. Assumes nothing.
-use Rattle.std.specs.Prelude.{ℕ, zero, suc, ◌+◌, ◌*◌, ◌≤◌, ◌≡◌, refl, Bool, true, false, cond, ◌&&◌, List, length, get_or, take, eqb, ltb, position, Some, None}
+use Rattle.std.specs.Prelude.{ℕ, zero, suc, ◌+◌, ◌*◌, ◌≤◌, ◌≡◌, refl, Bool, true, false, cond, ◌&&◌, List, length, get_or, take, eqb, position, unwrap_or}
 use Rattle.std.specs.List.{range_with_len, position_or_len, list_all}
 use Rattle.std.proofs.Common.{arith}
 use Rattle.std.proofs.Math.Numerals.{add-one}
 use Rattle.std.proofs.lemmas.List.Folds.{list_all_more}
 use Rattle.laws.specs.Below.{all_below, first_from, first_below}
-use Rattle.std.specs.Option.{option_map}
+use Rattle.laws.proofs.Below.{found_or}
 use Rattle.std.proofs.lemmas.List.FromFn.{length-range_with_len}
-use Rattle.partition.specs.Partition.{pairs, short_at, lowest_pair, lowest_short, zero_cell}
+use Rattle.partition.specs.Partition.{pairs, short_at, lowest_pair, zero_cell}
 
 module _ (f : ℕ → Bool) where
   find_more : (i m : ℕ) (t : Bool) → f i ≡ t → i + 1 + position_or_len f (range_with_len (i + 1) m) ≡ first_from f (i + 1) m
@@ -25,14 +25,9 @@ module _ (f : ℕ → Bool) where
   pub finds : (n : ℕ) → position_or_len f (range_with_len 0 n) ≡ first_below f n
   finds n = omega (arith, finds_from 0 n)
 
--- the first cell of the lowest short pair
-pub lowest : (bound : ℕ) (part : List ℕ) → option_map (λ j. 2 * j) (position (short_at bound part) (range_with_len 0 (pairs part))) ≡ lowest_short bound part
-unfolding lowest_short
-lowest bound part = rw (finds (short_at bound part) (pairs part), length-range_with_len 0 (pairs part)) (by (ltb (lowest_pair bound part) (pairs part)))
-  where
-    by : (within : Bool) → option_map (λ j. 2 * j) (cond within (Some (lowest_pair bound part)) None) ≡ cond within (Some (2 * lowest_pair bound part)) None
-    by true = refl
-    by false = refl
+-- the number of the lowest short pair
+pub lowest : (bound : ℕ) (part : List ℕ) → unwrap_or (position (short_at bound part) (range_with_len 0 (pairs part))) (pairs part) ≡ lowest_pair bound part
+lowest bound part = rw (finds (short_at bound part) (pairs part), length-range_with_len 0 (pairs part)) (found_or (short_at bound part) (pairs part))
 
 -- the cells below d are all zero
 pub zeros : (part : List ℕ) (d : ℕ) → d ≤ length part → list_all (λ x. eqb x 0) (take d part) ≡ all_below (zero_cell part) d

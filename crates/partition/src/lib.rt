@@ -6,7 +6,7 @@
 #![tactic(auto)]
 
 ghost use Rattle.std.specs.Prelude.{◌≡◌, ◌+◌, ◌*◌, ◌<◌, ◌≤◌, length};
-ghost use Rattle.partition.specs.Partition.{pair_at, short_at, short_pairs, lowest_short, shorts_of, marked, tail, no_data, survey_of};
+ghost use Rattle.partition.specs.Partition.{pair_at, short_at, short_pairs, lowest_pair, lowest_short, shorts_of, marked, tail, no_data, survey_of};
 ghost use Rattle.partition.specs.Partition.{SomeBesides, torn_pair};
 
 // How many pairs are short, and the lowest of them by its first cell, counted from the partition's start.
@@ -69,13 +69,27 @@ fn short_pairs(part: &[u32], bound: u64) -> usize
     short
 }
 
+// The number of the lowest short pair, that of all pairs where none is short.
+fn lowest_pair(part: &[u32], bound: u64) -> usize
+    ensures { result ≡ lowest_pair bound part.now }
+{
+    let pairs = part.len() / 2;
+    (0..pairs)
+        .position(|j| short_at(part, j, bound))
+        .unwrap_or(pairs)
+}
+
 // The first cell of the lowest short pair.
+// Doubled behind the search: `map` on it is counted along at each pair, which is slower.
 fn lowest_short(part: &[u32], bound: u64) -> Option<usize>
     ensures { result ≡ lowest_short bound part.now }
 {
-    (0..part.len() / 2)
-        .position(|j| short_at(part, j, bound))
-        .map(|j| 2 * j)
+    let j = lowest_pair(part, bound);
+    if j < part.len() / 2 {
+        Some(2 * j)
+    } else {
+        None
+    }
 }
 
 // How many pairs are short, and which is the lowest, which is looked for only where there is one.
@@ -97,10 +111,10 @@ pub fn torn_pair(part: &[u32], bound: u64) -> ShortPair
     requires { SomeBesides bound part.now }
     ensures { result ≡ torn_pair bound part.now }
 {
-    let cell = lowest_short(part, bound).unwrap();
+    let j = lowest_pair(part, bound);
     ShortPair {
-        cell,
-        ones: fuse::ones(pair_at(part, cell / 2)),
+        cell: 2 * j,
+        ones: fuse::ones(pair_at(part, j)),
     }
 }
 

@@ -6,13 +6,13 @@ use Rattle.std.proofs.Common.{sym, ap, ◌∙◌, ⊎_elim, lt-ltb, le-ltb, arit
 use Rattle.std.proofs.lemmas.List.{get_or_append_left}
 use mathlib.Core.List.{List, [], ◌++◌, flat_map}
 use Rattle.std.proofs.Math.Seq.{take-length}
-use Rattle.std.specs.Int.{w16, to_le_bytes}
 use Rattle.laws.specs.Tests.{lt_or_le}
 use Rattle.laws.specs.Put.{Put, retext}
 use Rattle.laws.specs.Below.{all_below}
 use Rattle.laws.proofs.Below.{all_fails}
 use Rattle.refusal.specs.declared.Refusal.TheVariants.{BadMap}
-use Rattle.endian.specs.Endian.{bytes2}
+use Rattle.endian.specs.Endian.{bytes2, bytes4}
+use Rattle.map.specs.Image.{entry}
 use Rattle.map.specs.declared.Entry.{Entry}
 use Rattle.plan.specs.Form.{Plan, entry_in}
 use Rattle.plan.specs.Reading.{entries_by, plan_by}
@@ -22,9 +22,23 @@ use Rattle.plan.specs.Images.{fits_at, Imaged, four}
 
 -- ---- the image, piece after piece
 
--- a u16 as std writes it
-pub le_bytes : (v : ℕ) → v < 65536 → to_le_bytes w16 v ≡ bytes2 v
-le_bytes v l = let high : v / 256 % 256 ≡ v / 256 = omega arith in rw high
+-- two u16 are a u32
+pub two_u16 : (low high : ℕ) → low < 65536 → high < 65536 → bytes4 (low + 65536 * high) ≡ bytes2 low ++ bytes2 high
+two_u16 low high l h =
+    let a : (low + 65536 * high) % 256 ≡ low % 256 = omega arith in
+    let more : (low + 65536 * high) / 256 ≡ low / 256 + 256 * high = omega arith in
+    let upper : (low + 65536 * high) / 65536 ≡ high = omega arith in
+    let b : (low / 256 + 256 * high) % 256 ≡ low / 256 = omega arith in
+    let d : (low + 65536 * high) / 16777216 ≡ high / 256 = omega arith in
+    rw (a, more, upper, b, d)
+
+-- kind and flags are a u16, and the two zero bytes another
+pub entry_is : (first n kind flags : ℕ) → kind ≤ 255 → flags ≤ 255
+    → bytes2 first ++ bytes2 n ++ (bytes2 (kind + 256 * flags) ++ bytes2 0) ≡ entry first n kind flags
+entry_is first n kind flags k f =
+    let a : (kind + 256 * flags) % 256 ≡ kind = omega arith in
+    let b : (kind + 256 * flags) / 256 ≡ flags = omega arith in
+    rw (a, b)
 
 -- ---- the entries, one after the other
 

@@ -2,8 +2,8 @@
 // once, byte after byte: its numbers are kept as far as a map can have them, and counted past that. The
 // text's form is in `specs/Form`, the reading in `specs/Reading`, the image and the refusals in
 // `specs/Writing`; that an image is written exactly when some good map has the text's fields is claimed
-// in `specs/Exactly` and proved in `proofs/Exactly`. It rests on `map` and `refusal`, below them on
-// `laws`, and for its definitions on `text`, `endian` and the outcome of `context`.
+// in `specs/Exactly` and proved in `proofs/Exactly`. It rests on `map`, `endian` and `refusal`, below
+// them on `laws`, and for its definitions on `text` and the outcome of `context`.
 #![tactic(auto)]
 
 ghost use Rattle.std.specs.Prelude.{◌+◌, ◌*◌, ◌/◌, ◌%◌, ◌≤◌, ◌≡◌, true, ◌++◌, length};
@@ -49,7 +49,7 @@ fn read_number(first: u8, text: &[u8]) -> Option<(u16, &[u8])>
         return None;
     }
     let mut value = u16::from(first - b'0');
-    // Kept as a loop: each turn takes the first byte off, and no index is counted. So does the next function's.
+    // Kept as a loop: each turn takes the first byte off, and no index walks the text. So does the next function's.
     let mut rest = text;
     while let Some((&c, behind)) = rest.split_first() {
         if !c.is_ascii_digit() {
@@ -84,14 +84,13 @@ fn read_numbers(text: &[u8], numbers: &mut [u16; KEPT]) -> Option<usize>
     (count % 4 == 2).then_some(count)
 }
 
-// Writes bytes, and answers the place past them.
-fn put<const N: usize>(image: &mut [u8], at: usize, bytes: [u8; N]) -> usize
-    requires { at + N ≤ length image.old }
-    ensures { Put at bytes.entry image.old image.new result }
+// Writes two u16, and answers the place past them.
+// Kept as numbers: `to_le_bytes` is an array, and `write_map` has two arrays and no other.
+fn put_two(image: &mut [u8], at: usize, low: u16, high: u16) -> usize
+    requires { at + 4 ≤ length image.old }
+    ensures { Put at (bytes2 low ++ bytes2 high) image.old image.new result }
 {
-    let end = at + N;
-    image[at..end].copy_from_slice(&bytes);
-    end
+    endian::put_u32(image, at, u32::from(low) + 65536 * u32::from(high))
 }
 
 // Writes the header of an image with so many partitions, with E = 8, and answers the place past it.
@@ -99,10 +98,8 @@ fn put_header(image: &mut [u8], partitions: u16, cells: u16, bound: u16) -> usiz
     requires { 8 ≤ length image.old }
     ensures { Put 0 (bytes2 partitions ++ bytes2 cells ++ bytes2 bound ++ bytes2 8) image.old image.new result }
 {
-    let at = put(image, 0, partitions.to_le_bytes());
-    let at = put(image, at, cells.to_le_bytes());
-    let at = put(image, at, bound.to_le_bytes());
-    put(image, at, [8, 0])
+    let at = put_two(image, 0, partitions, cells);
+    put_two(image, at, bound, 8)
 }
 
 // Writes an entry, and answers the place past it.
@@ -110,9 +107,8 @@ fn put_entry(image: &mut [u8], at: usize, first: u16, n: u16, kind: u8, flags: u
     requires { at + 8 ≤ length image.old }
     ensures { Put at (entry first n kind flags) image.old image.new result }
 {
-    let at = put(image, at, first.to_le_bytes());
-    let at = put(image, at, n.to_le_bytes());
-    put(image, at, [kind, flags, 0, 0])
+    let at = put_two(image, at, first, n);
+    put_two(image, at, u16::from(kind) + 256 * u16::from(flags), 0)
 }
 
 // Writes the image of a plan, unless a kind or flags is more than its byte holds.

@@ -10,7 +10,8 @@ use Rattle.report.specs.Report.{Saying, on_output, on_errors}
 
 -- an outcome of `write_map`, and what is printed for it
 pub data Says (before : List ℕ) : Outcome (Result ℕ Refusal) (List ℕ) → Saying → Type 0 where
-  refused : (refusal : Refusal) → Says before (refusing Err before refusal) (on_errors (refused_line (number refusal)))
+  refused : (refusal : Refusal) → number refusal ≤ 16
+      → Says before (refusing Err before refusal) (on_errors (refused_line (number refusal)))
   written : (image : List ℕ) → length image ≤ length before → Says before (in_front image before) (on_output image)
 
 -- the part of the buffer that is lent to `write_map`

@@ -1,5 +1,5 @@
 -- The line of each reason, by computation, under the bound 60, and a refusal in words. Assumes nothing.
-use Rattle.std.specs.Prelude.{◌≡◌, refl, [], ◌∷◌, map}
+use Rattle.std.specs.Prelude.{◌≡◌, refl, [], ◌∷◌, ◌++◌, map}
 use Rattle.reason.specs.declared.Reason.TheVariants.{Available, NoSlot, AllErased, Blank, Torn}
 use Rattle.text.specs.Text.{text, decimal}
 use Rattle.wording.specs.Wording.{refused_words, pair_words, reason_line}
@@ -18,3 +18,7 @@ lines = refl
 refused : refused_words 2 ≡ text "refused 2"
 unfolding decimal
 refused = refl
+
+refused_and_line_feed : refused_words 2 ++ text "\n" ≡ text "refused 2\n"
+unfolding decimal
+refused_and_line_feed = refl

@@ -1,7 +1,6 @@
 -- `codec::put_numbers` meets its contract: the loop's invariant: the numbers so far are written. Assumes nothing.
-use Rattle.std.proofs.Common.{◌≡◌, ◌+◌, arith, min}
-use Rattle.laws.specs.Put.{then, retext}
-use Rattle.codec.proofs.Laws.{written_most, written_next}
+use Rattle.std.proofs.Common.{◌≡◌, ◌+◌, arith, min, rules, tests}
+use Rattle.codec.proofs.Laws.{written_most, written_more}
 use Rattle.codec.proofs.put_numbers.Goals as goal
 use Rattle.codec.proofs.put_numbers.Goals.{then-k-count, else-k-count}
 
@@ -18,7 +17,7 @@ loop-k-preserved c =
           (let all : min c.loop-k.k c.args.count ≡ c.loop-k.k = omega (arith, w.if-k-count.true) in
           let next : min (c.loop-k.k + 1) c.args.count ≡ c.loop-k.k + 1 = omega (arith, w.if-k-count.true) in
           rw (w.out-is, w.end-is, next)
-          (retext (written_next c.args.numbers c.loop-k.k (omega (arith, c.loop-k-test.true))) (then (rw all at c.loop-k.invariant) w.put_u32-end.ensures)))
+          (written_more c.args.numbers c.loop-k.k (omega (arith, c.loop-k-test.true)) (rw all at c.loop-k.invariant) w.put_u32-end.ensures (search (rules, tests))))
       | else-k-count w ↦
           (let same : min (c.loop-k.k + 1) c.args.count ≡ min c.loop-k.k c.args.count = omega (arith, w.if-k-count.false) in
           rw (w.out-is, w.end-is, same) c.loop-k.invariant)

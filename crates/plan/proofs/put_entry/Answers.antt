@@ -1,11 +1,10 @@
--- `plan::put_entry` meets its contract: first and cells, and then kind, flags and two zero bytes. Assumes nothing.
-use Rattle.std.proofs.Common.{◌∙◌}
-use Rattle.laws.specs.Put.{then}
-use Rattle.plan.proofs.Images.{le_bytes}
+-- `plan::put_entry` meets its contract: first and cells, then kind and flags as one u16. Assumes nothing.
+use native.Mathlib.Omega.{arith}
+use Rattle.laws.specs.Put.{then, retext}
+use Rattle.plan.proofs.Images.{entry_is}
 use Rattle.plan.proofs.put_entry.Goals as goal
 
 pub returns : goal.returns
 returns c =
-    let first = rw (c.to_le_bytes.ensures ∙ le_bytes c.args.first c.ranges.first.fits) at c.put-at.ensures in
-    let n = rw (c.to_le_bytes-2.ensures ∙ le_bytes c.args.n c.ranges.n.fits) at c.put-at-2.ensures in
-    then (then first n) c.put.ensures
+    let rest = rw (c.from.ensures, c.from-2.ensures) at c.put_two.ensures in
+    retext (entry_is _ _ _ _ (omega (arith, c.ranges.kind.fits)) (omega (arith, c.ranges.flags.fits))) (then c.put_two-at.ensures rest)

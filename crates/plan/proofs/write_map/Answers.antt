@@ -31,7 +31,7 @@ returns-in_err-count c =
     rw (p.1, p.2, is) (found_formless _ _ (sym none ∙ c.read_numbers.ensures.0))
 
 pub returns-then-out-lines : goal.returns-then-out-lines
-returns-then-out-lines c = found_short _ _ _ (counted (goal.at.returns-then-out-lines c).In_ok-count) c.if-out-lines.true
+returns-then-out-lines c = found_short c.args.text.now c.args.out.now c.in_ok-count.count (counted (goal.at.returns-then-out-lines c).In_ok-count) (omega (arith, c.if-out-lines.true))
 
 pub returns-in_err-numbers : goal.returns-in_err-numbers
 returns-in_err-numbers c =
@@ -39,23 +39,23 @@ returns-in_err-numbers c =
     let none : c.get.result ≡ None = grind arith in
     let is : c.in_err-numbers.field-0.0 ≡ BadMap = grind arith in
     let many : 66 < c.in_ok-count.count = let r = (rw none at c.get.ensures.lookup).0 in omega (arith, r) in
-    rw (p.1, p.2, is) (found_many _ _ _ (counted (goal.at.returns-in_err-numbers c).In_ok-count) c.if-out-lines.false many)
+    rw (p.1, p.2, is) (found_many c.args.text.now c.args.out.now c.in_ok-count.count (counted (goal.at.returns-in_err-numbers c).In_ok-count) (omega (arith, c.if-out-lines.false)) many)
 
 pub returns-in_err-put_image : goal.returns-in_err-put_image
 returns-in_err-put_image c =
     let p = err_from_is_err_and c.from_residual-in_err-put_image.result c.from_residual-in_err-put_image.ensures.1 in
     let part = part (goal.at.returns-in_err-put_image c).In_ok-numbers in
-    rw (p.1, p.2) (found_large _ _ _ (counted (goal.at.returns-in_err-put_image c).In_ok-count) c.if-out-lines.false _ _ c.read_numbers.ensures.1 part.0 part.1
+    rw (p.1, p.2) (found_large c.args.text.now c.args.out.now c.in_ok-count.count (counted (goal.at.returns-in_err-put_image c).In_ok-count) (omega (arith, c.if-out-lines.false)) _ _ c.read_numbers.ensures.1 part.0 part.1
     c.args.out.now c.args.out.now _ c.in_err-put_image.ensures)
 
 pub returns-then-not-is_good : goal.returns-then-not-is_good
 returns-then-not-is_good c =
     let part = part (goal.at.returns-then-not-is_good c).In_ok-numbers in
-    found_bad _ _ _ (counted (goal.at.returns-then-not-is_good c).In_ok-count) c.if-out-lines.false _ _ c.read_numbers.ensures.1 part.0 part.1
+    found_bad c.args.text.now c.args.out.now c.in_ok-count.count (counted (goal.at.returns-then-not-is_good c).In_ok-count) (omega (arith, c.if-out-lines.false)) _ _ c.read_numbers.ensures.1 part.0 part.1
     _ _ (imaged (goal.at.returns-then-not-is_good c).In_ok-put_image) (sym c.is_good.ensures ∙ c.if-not-is_good.true)
 
 pub returns : goal.returns
 returns c =
     let part = part (goal.at.returns c).In_ok-numbers in
-    found_good _ _ _ (counted (goal.at.returns c).In_ok-count) c.if-out-lines.false _ _ c.read_numbers.ensures.1 part.0 part.1
+    found_good c.args.text.now c.args.out.now c.in_ok-count.count (counted (goal.at.returns c).In_ok-count) (omega (arith, c.if-out-lines.false)) _ _ c.read_numbers.ensures.1 part.0 part.1
     _ _ (imaged (goal.at.returns c).In_ok-put_image) (sym c.is_good.ensures ∙ c.if-not-is_good.false) _ c.in_ok-put_image-2.ensures
