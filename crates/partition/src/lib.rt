@@ -70,6 +70,7 @@ fn short_pairs(part: &[u32], bound: u64) -> usize
 }
 
 // The number of the lowest short pair, that of all pairs where none is short.
+// Kept as a number for none: of an Option `torn_pair` would take the pair by a test that can trap.
 fn lowest_pair(part: &[u32], bound: u64) -> usize
     ensures { result ≡ lowest_pair bound part.now }
 {
@@ -80,7 +81,6 @@ fn lowest_pair(part: &[u32], bound: u64) -> usize
 }
 
 // The first cell of the lowest short pair.
-// Doubled behind the search: `map` on it is counted along at each pair, which is slower.
 fn lowest_short(part: &[u32], bound: u64) -> Option<usize>
     ensures { result ≡ lowest_short bound part.now }
 {
